@@ -1,0 +1,5 @@
+pub mod Pairing
+pub mod Lone
+pub mod Back
+pub mod Cleaning
+pub mod Digits

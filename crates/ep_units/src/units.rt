@@ -1,0 +1,129 @@
+//! A text as its UTF-16 units.
+
+ghost use Rattle.std.specs.Prelude.{◌≡◌, List, ℕ, [], ◌∷◌, ◌++◌, length, true, ◌↔◌, IsTrue, OnOk, OnErr, IfOk};
+ghost use Rattle.std.specs.Char.Escape.{encode_utf16};
+ghost use Rattle.ep_units.specs.Text.{is_well_formed};
+ghost use Rattle.ep_units.specs.Utf8.{units_of};
+
+use crate::no_memory::NoMemory;
+use std::alloc::Global;
+use std::marker::Model;
+
+/// A text as its UTF-16 units.
+#[derive(Drop)]
+pub struct Units {
+    units: Vec<u16>,
+}
+
+impl Model for Units {
+    ghost Value = { List ℕ };
+
+    ghost view = { λ u. u.units.items };
+}
+
+impl Units {
+    pub fn new(alloc: Global) -> Units
+        ensures { result ≡ [] }
+    {
+        Units {
+            units: Vec::new(alloc),
+        }
+    }
+
+    /// No units, with room for so many.
+    pub fn with_capacity(alloc: Global, units: usize) -> Result<Units, NoMemory>
+        ensures { IfOk result (λ u. u ≡ []) }
+    {
+        Ok(Units {
+            units: Vec::with_capacity(alloc, units)?,
+        })
+    }
+
+    /// The units of a text in UTF-8.
+    pub fn from_str(alloc: Global, text: &str) -> Result<Units, NoMemory>
+        ensures units { IfOk result (λ u. u ≡ units_of text.now) }
+        ensures well_formed { IfOk result (λ u. is_well_formed u ≡ true) }
+    {
+        let mut units = Units::new(alloc);
+        for c in text.chars() {
+            units.push_char(c)?;
+        }
+        Ok(units)
+    }
+
+    pub fn from_slice(alloc: Global, units: &[u16]) -> Result<Units, NoMemory>
+        ensures { IfOk result (λ u. u ≡ units.now) }
+    {
+        Ok(Units {
+            units: units.to_vec(alloc)?,
+        })
+    }
+
+    pub fn len(&self) -> usize
+        ensures { result ≡ length self.now }
+    {
+        self.units.len()
+    }
+
+    pub fn is_empty(&self) -> bool
+        ensures { IsTrue result ↔ (self.now ≡ []) }
+    {
+        self.units.is_empty()
+    }
+
+    fn push_char(&mut self, c: char) -> Result<(), NoMemory>
+        ensures { OnOk result (self.new ≡ self.old ++ encode_utf16 c) }
+    {
+        let mut pair = [0u16; 2];
+        self.push_all(c.encode_utf16(&mut pair))
+    }
+
+    pub fn as_slice(&self) -> &[u16]
+        ensures { result.now ≡ self.now }
+    {
+        self.units.as_slice()
+    }
+
+    pub fn push(&mut self, unit: u16) -> Result<(), NoMemory>
+        ensures ok { OnOk result (self.new ≡ self.old ++ unit ∷ []) }
+        ensures err { OnErr result (self.new ≡ self.old) }
+    {
+        self.units.push(unit)?;
+        Ok(())
+    }
+
+    pub fn push_all(&mut self, units: &[u16]) -> Result<(), NoMemory>
+        ensures ok { OnOk result (self.new ≡ self.old ++ units.now) }
+        ensures err { OnErr result (self.new ≡ self.old) }
+    {
+        self.units.extend_from_slice(units)?;
+        Ok(())
+    }
+
+    pub fn copy(&self, alloc: Global) -> Result<Units, NoMemory>
+        ensures { IfOk result (λ u. u ≡ self.now) }
+    {
+        Units::from_slice(alloc, self.as_slice())
+    }
+}
+
+#[cfg(test)]
+mod tests {
+    use super::*;
+    use std::test::Fail;
+
+    #[test]
+    fn units_of_a_text(rt: HostRuntime) -> Result<(), Fail> {
+        let units = Units::from_str(rt.alloc(), "a😀\n")?;
+        assert_eq!(rt; units.as_slice(), [97, 0xD83D, 0xDE00, 10].as_slice());
+        let mut made = Units::new(rt.alloc());
+        assert!(rt; made.is_empty());
+        made.push(97)?;
+        made.push_all(&[0xD83D, 0xDE00, 10])?;
+        assert_eq!(rt; made.len(), 4);
+        assert_eq!(rt; made.as_slice(), units.copy(rt.alloc())?.as_slice());
+        let one = Units::from_slice(rt.alloc(), &[97])?;
+        assert_eq!(rt; one.as_slice(), [97].as_slice());
+        Ok(())
+    }
+}
