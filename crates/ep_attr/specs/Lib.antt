@@ -1,0 +1,3 @@
+pub mod AttrMap
+pub mod Codes
+pub mod Attrs
