@@ -1,0 +1,14 @@
+pub mod Doc
+pub mod Edit
+pub mod Steps
+pub mod Splice
+pub mod Runs
+pub mod Normal
+pub mod Change
+pub mod Fits
+pub mod Follow
+pub mod Rebase
+pub mod Plain
+pub mod Spelling
+pub mod Codes
+pub mod PlainChange
