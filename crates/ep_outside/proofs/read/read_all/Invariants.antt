@@ -1,0 +1,13 @@
+use Rattle.std.proofs.Common.{◌-◌, ◌≡◌, ◌≤◌, vec_len, ◌+◌}
+use Rattle.ep_outside.specs.Outside.{Gives}
+use Rattle.ep_outside.proofs.read.read_all.Given as goal
+
+abbrev pub invariant-loop-room : goal.invariant-loop-room
+invariant-loop-room g l = record {
+  read : Gives (g.S.Source.left l.initial.source) (g.S.Source.left l.source) l.text.items;
+  later : g.S.Source.failures l.initial.source ≤ g.S.Source.failures l.source;
+  steady : g.S.Source.is_steady l.source ≡ g.S.Source.is_steady l.initial.source;
+}
+
+abbrev pub decreases-loop-room : goal.decreases-loop-room
+decreases-loop-room g l = l.most + 1 - vec_len l.text
