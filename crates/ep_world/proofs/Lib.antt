@@ -1,0 +1,10 @@
+pub mod Views
+pub mod Standing
+pub mod Members
+pub mod Events
+pub mod Pending
+pub mod Shown
+pub mod LastUnit
+pub mod Cases
+pub mod Stages
+pub mod Names
