@@ -1,0 +1,34 @@
+//! `padd`, the server of a collaborative pad.
+//!
+//! All that the program does is `run`, over any source and sink; `main` makes the real ones.
+#![tactic(auto)]
+
+mod line;
+mod play;
+mod reason;
+mod run;
+mod standard;
+
+use run::run;
+use standard::{StdSink, StdSource};
+use std::process::ExitCode;
+use std::{env, io};
+
+/// The words behind the program's name.
+fn words(rt: &HostRuntime) -> io::Result<Vec<String>> {
+    let mut words = Vec::new(rt.alloc());
+    for word in env::args(rt)?.skip(1) {
+        words.push(word)?;
+    }
+    Ok(words)
+}
+
+fn main(rt: HostRuntime) -> ExitCode {
+    let Ok(words) = words(&rt) else {
+        return ExitCode::from(7);
+    };
+    let mut source = StdSource::new(rt.reader());
+    let mut sink = StdSink::new(io::writer(&rt));
+    let status = run(rt.alloc(), &words, &mut source, &mut sink);
+    ExitCode::from(status.code)
+}

@@ -1,0 +1,44 @@
+//! Why a script ends at a line.
+
+ghost use Rattle.std.specs.Prelude.{◌≡◌, IfOk};
+ghost use Rattle.std.specs.String.{string_bytes};
+ghost use Rattle.padd.specs.Play.{error_line, status_of_reason};
+
+use std::alloc::{AllocError, Global};
+
+/// Why a line is not played.
+#[derive(Clone, Copy, Debug, PartialEq, Eq)]
+pub enum Reason {
+    /// It is not UTF-8.
+    Utf8,
+    /// It is no line of the grammar.
+    Syntax,
+    /// It names nobody.
+    Unknown,
+    /// What it asks for is not built yet.
+    NotBuilt,
+}
+
+impl Reason {
+    /// The line of output that says so of line k, which is counted from 1.
+    pub fn error_line(self, alloc: Global, k: u64) -> Result<String, AllocError>
+        ensures { IfOk result (λ s. string_bytes s ≡ error_line k self) }
+    {
+        match self {
+            Reason::Utf8 => format!(in alloc; "error line {k} utf8\n"),
+            Reason::Syntax => format!(in alloc; "error line {k} syntax\n"),
+            Reason::Unknown => format!(in alloc; "error line {k} unknown\n"),
+            Reason::NotBuilt => format!(in alloc; "error line {k} notbuilt\n"),
+        }
+    }
+
+    /// The program's status then.
+    pub fn status(self) -> u8
+        ensures { result ≡ status_of_reason self }
+    {
+        match self {
+            Reason::Utf8 | Reason::Syntax | Reason::Unknown => 3,
+            Reason::NotBuilt => 12,
+        }
+    }
+}
