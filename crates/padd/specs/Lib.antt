@@ -2,3 +2,4 @@ pub mod Play
 pub mod Stops
 pub mod Played
 pub mod Run
+pub mod Standard

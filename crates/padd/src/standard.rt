@@ -1,6 +1,10 @@
-//! Standard input and output as a source and a sink. They count their faults, and tell nothing of content.
+//! Standard input and output as a source and a sink. They count their faults, and as source and sink they
+//! tell nothing of content; what they take and give is said where the reader and the writer tell it.
 
-ghost use Rattle.std.specs.Prelude.{◌≡◌};
+ghost use Rattle.std.specs.Prelude.{◌≡◌, ◌≤◌, ◌<◌, None, length, OnOk, OnErr};
+ghost use Rattle.std.specs.Io.KnownBytes.{Appends};
+ghost use Rattle.ep_outside.specs.Outside.{HasRisen, Reads, TakesPart};
+ghost use Rattle.padd.specs.Standard.{ReadsOn};
 
 use ep_outside::{Failed, Got, Sink, Source};
 use std::io::{Read, Write};
@@ -8,13 +12,14 @@ use std::io::{Read, Write};
 /// A reader as a source.
 #[derive(Drop)]
 pub struct StdSource<R> {
-    reader: R,
+    pub reader: R,
     faults: u64,
 }
 
 impl<R: Read> StdSource<R> {
     pub fn new(reader: R) -> StdSource<R>
-        ensures { result.faults ≡ 0 }
+        ensures reader { result.reader ≡ reader }
+        ensures faultless { ⟦<StdSource<R> as Source>⟧.failures result ≡ 0 }
     {
         StdSource { reader, faults: 0 }
     }
@@ -36,7 +41,13 @@ impl<R: Read> Source for StdSource<R> {
         self.faults
     }
 
-    fn read(&mut self, room: &mut [u8]) -> Got {
+    fn read(&mut self, room: &mut [u8]) -> Got
+        requires { 0 < length room.old }
+        ensures bytes { Reads None None result room.new }
+        ensures reader { ReadsOn (R.remaining self.old.reader) (R.remaining self.new.reader) result room.new }
+        ensures later { self.old.faults ≤ self.new.faults }
+        ensures cause { result ≡ Got.Failed → HasRisen self.old.faults self.new.faults }
+    {
         match self.reader.read(room) {
             Ok(0) => Got::End,
             Ok(n) => Got::Bytes(n),
@@ -51,13 +62,14 @@ impl<R: Read> Source for StdSource<R> {
 /// A writer as a sink.
 #[derive(Drop)]
 pub struct StdSink<W> {
-    writer: W,
+    pub writer: W,
     faults: u64,
 }
 
 impl<W: Write> StdSink<W> {
     pub fn new(writer: W) -> StdSink<W>
-        ensures { result.faults ≡ 0 }
+        ensures writer { result.writer ≡ writer }
+        ensures faultless { ⟦<StdSink<W> as Sink>⟧.failures result ≡ 0 }
     {
         StdSink { writer, faults: 0 }
     }
@@ -79,7 +91,12 @@ impl<W: Write> Sink for StdSink<W> {
         self.faults
     }
 
-    fn write(&mut self, bytes: &[u8]) -> Result<(), Failed> {
+    fn write(&mut self, bytes: &[u8]) -> Result<(), Failed>
+        ensures writer { OnOk result (Appends (W.contents self.old.writer) (W.contents self.new.writer) bytes.now) }
+        ensures err { OnErr result (TakesPart None None bytes.now) }
+        ensures later { self.old.faults ≤ self.new.faults }
+        ensures cause { OnErr result (HasRisen self.old.faults self.new.faults) }
+    {
         match self.writer.write_all(bytes) {
             Ok(()) => Ok(()),
             Err(_) => {
