@@ -215,16 +215,24 @@ mod tests {
         match event {
             Event::Create { text } => named(alloc, "create", text),
             Event::Login { name } => named(alloc, "login", name),
-            Event::Edit { name, edit } => {
-                let Local::Insert { at, text } = edit;
-                let name = name.to_text_lossy(alloc)?;
-                let text = text.to_text_lossy(alloc)?;
-                Ok(format!(in alloc; "insert [{name}] [{at}] [{text}]")?)
-            }
+            Event::Edit { name, edit } => told_edit(alloc, name, edit),
             Event::Submit { name } => named(alloc, "submit", name),
             Event::Take { name } => named(alloc, "take", name),
             Event::Push { name } => named(alloc, "push", name),
             Event::Hear { name } => named(alloc, "hear", name),
+        }
+    }
+
+    fn told_edit(alloc: Global, name: Units, edit: Local) -> Result<String, NoMemory> {
+        let name = name.to_text_lossy(alloc)?;
+        match edit {
+            Local::Insert { at, text } => {
+                let text = text.to_text_lossy(alloc)?;
+                Ok(format!(in alloc; "insert [{name}] [{at}] [{text}]")?)
+            }
+            Local::Delete { at, units } => Ok(format!(in alloc;
+                "delete [{name}] [{at}] [{units}]"
+            )?),
         }
     }
 

@@ -11,13 +11,18 @@ mod standard;
 
 use run::run;
 use standard::{StdSink, StdSource};
+use std::io::ErrorKind;
 use std::process::ExitCode;
 use std::{env, io};
 
-/// The words behind the program's name.
+/// The words behind the program's name, or none where one is not UTF-8.
 fn words(rt: &HostRuntime) -> io::Result<Vec<String>> {
     let mut words = Vec::new(rt.alloc());
-    for word in env::args(rt)?.skip(1) {
+    let args = match env::args(rt) {
+        Err(error) if error.kind() == ErrorKind::InvalidData => return Ok(words),
+        args => args?,
+    };
+    for word in args.skip(1) {
         words.push(word)?;
     }
     Ok(words)
