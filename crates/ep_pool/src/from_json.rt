@@ -1,0 +1,301 @@
+//! Pools from JSON.
+
+ghost use Rattle.std.specs.Prelude.{IfErr, IsSomeAnd, ◌⊎◌, codes, is_some, nat_lt, not, true, ◌≡◌, ◌≤◌, ◌<◌, ◌^◌, ◌↔◌, ◌≢◌, ℕ, Some, None, option_map, IsSome, IsTrue, IfSome, IfOk, IsErrOf, decimal, length, slice_get};
+ghost use Rattle.serde_json.specs.Find.{as_object, get, get_member};
+ghost use Rattle.serde_json.specs.View.{members_view, view};
+ghost use Rattle.ep_units.specs.Utf8.{units_of};
+ghost use Rattle.ep_pool.specs.Read.{AreEntries, HasEntries, HasNoGap, HasShape, IsGap, IsLeast, IsPoolOf, IsTwice, entry_in, is_before, next_num, pair_read};
+ghost use Rattle.ep_pool.specs.Pool.{pair_of};
+
+use crate::pool::Pool;
+use ep_attr::Attr;
+use ep_units::{NoMemory, Units};
+use itoa::Buffer;
+use serde_json::{Map, Value};
+use std::alloc::Global;
+use thiserror::Error;
+
+/// A member of a pool's JSON.
+#[derive(Clone, Copy, Debug, PartialEq, Eq)]
+pub enum PoolMember {
+    /// `nextNum`
+    NextNum,
+    /// `numToAttrib`
+    NumToAttrib,
+}
+
+/// Why a JSON value is no pool.
+#[derive(Clone, Copy, Debug, Error, PartialEq, Eq)]
+pub enum PoolBad {
+    /// The member is missing, or isn't what it should be by itself.
+    #[error("a pool's {0:?} is missing or has a wrong shape")]
+    Shape(PoolMember),
+    /// The least number below `nextNum` without an attribute, or with one and not below.
+    #[error("attribute {0} is missing, or there are fewer")]
+    Gap(u32),
+    /// The least number whose attribute has a lower number too.
+    #[error("attribute {0} has a lower number too")]
+    Twice(u32),
+    #[error("out of memory")]
+    NoMemory,
+}
+
+impl From<NoMemory> for PoolBad {
+    ghost use Rattle.std.specs.Prelude.{◌≡◌};
+    ghost use Rattle.ep_pool.specs.declared.from_json.PoolBad.TheVariants as bad;
+
+    ghost from_gives = { λ _ e. e ≡ bad.NoMemory };
+
+    fn from(_error: NoMemory) -> PoolBad {
+        PoolBad::NoMemory
+    }
+}
+
+fn next_num(value: &Value) -> Option<u32>
+    ensures { result ≡ next_num (view value.now) }
+{
+    let number = value.get("nextNum").and_then(Value::as_u64)?;
+    if number < 1 << 32 {
+        Some(number as u32)
+    } else {
+        None
+    }
+}
+
+fn number_of_key(key: &str) -> Option<u32>
+    ensures some { IfSome result (λ n. (n < 2 ^ 32) × (key.now ≡ decimal n)) }
+    ensures none { result ≡ None → (n : ℕ) → n < 2 ^ 32 → key.now ≢ decimal n }
+{
+    match key.parse::<u32>() {
+        Ok(number) => {
+            let mut buffer = Buffer::new();
+            if buffer.format(number) == key {
+                Some(number)
+            } else {
+                None
+            }
+        }
+        Err(_) => None,
+    }
+}
+
+fn two_texts(value: &Value) -> Option<(&str, &str)>
+    ensures { option_map (λ t. (units_of t.0.now, units_of t.1.now)) result ≡ pair_read (view value.now) }
+{
+    let key = value.get(0).and_then(Value::as_str)?;
+    let text = value.get(1).and_then(Value::as_str)?;
+    if value.get(2).is_some() {
+        None
+    } else {
+        Some((key, text))
+    }
+}
+
+fn are_entries(members: &Map<String, Value>) -> bool
+    ensures { IsTrue result ↔ AreEntries (members_view members.now.entries) }
+{
+    for (key, value) in members.iter() {
+        if number_of_key(key.as_str()).is_none() || two_texts(value).is_none() {
+            return false;
+        }
+    }
+    true
+}
+
+fn entry(attribs: &Value, n: u32) -> Option<(&str, &str)>
+    ensures { option_map (λ t. (units_of t.0.now, units_of t.1.now)) result ≡ entry_in (view attribs.now) n }
+{
+    let mut buffer = Buffer::new();
+    two_texts(attribs.get(buffer.format(n))?)
+}
+
+fn first_missing(attribs: &Value, next: u32) -> Option<u32>
+    ensures some { IfSome result (λ n. (n < next) × (entry_in (view attribs.now) n ≡ None) × ((k : ℕ) → k < n → IsSome (entry_in (view attribs.now) k))) }
+    ensures none { result ≡ None → (k : ℕ) → k < next → IsSome (entry_in (view attribs.now) k) }
+{
+    for n in 0..next {
+        if entry(attribs, n).is_none() {
+            return Some(n);
+        }
+    }
+    None
+}
+
+// The lesser of a number found before and that of the key, where this isn't below `next`.
+fn nearer(least: Option<u32>, key: &str, next: u32) -> Option<u32>
+    ensures found { IfSome result (λ m. (least ≡ Some m) ⊎ ((next ≤ m) × (m < 2 ^ 32) × (key.now ≡ decimal m))) }
+    ensures passed { (k : ℕ) → next ≤ k → k < 2 ^ 32 → is_before k result ≡ true → (is_before k least ≡ true) × (key.now ≢ decimal k) }
+{
+    match number_of_key(key) {
+        Some(n) if next <= n => match least {
+            Some(m) if m <= n => least,
+            _ => Some(n),
+        },
+        _ => least,
+    }
+}
+
+fn first_beyond(members: &Map<String, Value>, next: u32) -> Option<u32>
+    ensures some { IfSome result (λ n. (next ≤ n) × (n < 2 ^ 32) × IsSome (get_member (decimal n) (members_view members.now.entries))) }
+    ensures rest { (k : ℕ) → next ≤ k → k < 2 ^ 32 → is_before k result ≡ true → get_member (decimal k) (members_view members.now.entries) ≡ None }
+{
+    let mut least = None;
+    for (key, _value) in members.iter() {
+        least = nearer(least, key.as_str(), next);
+    }
+    least
+}
+
+fn first_gap(attribs: &Value, next: u32) -> Option<u32>
+    requires { IsSomeAnd (as_object (view attribs.now)) AreEntries }
+    ensures some { IfSome result (IsLeast (λ n. nat_lt n next ≡ not (is_some (entry_in (view attribs.now) n)))) }
+    ensures none { result ≡ None → (n : ℕ) → n < 2 ^ 32 → nat_lt n next ≡ is_some (entry_in (view attribs.now) n) }
+{
+    match first_missing(attribs, next) {
+        Some(n) => Some(n),
+        None => first_beyond(attribs.as_object()?, next),
+    }
+}
+
+fn attribs_of(value: &Value) -> Option<&Value>
+    ensures some { IfSome result (λ a. (get (codes "numToAttrib") (view value.now) ≡ Some (view a.now)) × IsSomeAnd (as_object (view a.now)) AreEntries) }
+    ensures none { result ≡ None → HasEntries (view value.now) → ⊥ }
+{
+    let attribs = value.get("numToAttrib")?;
+    if are_entries(attribs.as_object()?) {
+        Some(attribs)
+    } else {
+        None
+    }
+}
+
+fn attr_of(alloc: Global, key: &str, value: &str) -> Result<Attr, NoMemory>
+    ensures { IfOk result (λ a. pair_of a ≡ (units_of key.now, units_of value.now)) }
+{
+    Ok(Attr {
+        key: Units::from_str(alloc, key)?,
+        value: Units::from_str(alloc, value)?,
+    })
+}
+
+fn gather(alloc: Global, attribs: &Value, next: u32) -> Result<Pool, PoolBad>
+    requires { (k : ℕ) → k < next → IsSome (entry_in (view attribs.now) k) }
+    ensures len { IfOk result (λ p. length p.pairs ≡ next) }
+    ensures entries { IfOk result (λ p. (k : ℕ) → k < next → entry_in (view attribs.now) k ≡ slice_get p.pairs k) }
+    ensures twice { (n : ℕ) → IsErrOf result (PoolBad.Twice n) → (n < next) × IsLeast (λ m. (k : ℕ) × (k < m) × (entry_in (view attribs.now) k ≡ entry_in (view attribs.now) m)) n }
+    ensures causes { IfErr result (λ e. (e ≡ PoolBad.NoMemory) ⊎ ((n : ℕ) × (e ≡ PoolBad.Twice n))) }
+{
+    let mut pool = Pool::new(alloc);
+    pool.reserve(next)?;
+    for n in 0..next {
+        let (key, value) = entry(attribs, n).unwrap();
+        if pool.put(attr_of(alloc, key, value)?) < n {
+            return Err(PoolBad::Twice(n));
+        }
+    }
+    Ok(pool)
+}
+
+impl Pool {
+    /// Other members of the value are ignored.
+    pub fn from_json(alloc: Global, value: &Value) -> Result<Pool, PoolBad>
+        ensures pool { IfOk result (λ p. IsPoolOf (view value.now) p.pairs) }
+        ensures next_num { IsErrOf result (PoolBad.Shape PoolMember.NextNum) → next_num (view value.now) ≡ None }
+        ensures num_to_attrib { IsErrOf result (PoolBad.Shape PoolMember.NumToAttrib) → IsSome (next_num (view value.now)) × (HasEntries (view value.now) → ⊥) }
+        ensures gap { (n : ℕ) → IsErrOf result (PoolBad.Gap n) → HasShape (view value.now) × IsLeast (IsGap (view value.now)) n }
+        ensures twice { (n : ℕ) → IsErrOf result (PoolBad.Twice n) → HasShape (view value.now) × HasNoGap (view value.now) × IsLeast (IsTwice (view value.now)) n }
+    {
+        let Some(next) = next_num(value) else {
+            return Err(PoolBad::Shape(PoolMember::NextNum));
+        };
+        let Some(attribs) = attribs_of(value) else {
+            return Err(PoolBad::Shape(PoolMember::NumToAttrib));
+        };
+        match first_gap(attribs, next) {
+            Some(n) => Err(PoolBad::Gap(n)),
+            None => gather(alloc, attribs, next),
+        }
+    }
+}
+
+#[cfg(test)]
+mod tests {
+    use super::*;
+    use std::test::Fail;
+
+    fn read(alloc: Global, text: &str) -> Result<Pool, PoolBad> {
+        match Value::from_str(alloc, text) {
+            Ok(value) => Pool::from_json(alloc, &value),
+            Err(_) => Err(PoolBad::NoMemory),
+        }
+    }
+
+    #[test]
+    fn there_and_back(rt: HostRuntime) -> Result<(), Fail> {
+        let alloc = rt.alloc();
+        let text =
+            "{\"nextNum\":2,\"numToAttrib\":{\"0\":[\"bold\",\"true\"],\"1\":[\"author\",\"a.x\"]}}";
+        let mut pool = Pool::new(alloc);
+        pool.reserve(2)?;
+        pool.put(attr_of(alloc, "bold", "true")?);
+        pool.put(attr_of(alloc, "author", "a.x")?);
+        assert_eq!(rt; pool.to_json(alloc)?.to_string(alloc)?.as_str(), text);
+        assert_eq!(rt;
+            read(alloc, text)?
+                .to_json(alloc)?
+                .to_string(alloc)?
+                .as_str(),
+            text
+        );
+        Ok(())
+    }
+
+    #[test]
+    fn refusals(rt: HostRuntime) -> Result<(), Fail> {
+        let next_num = PoolBad::Shape(PoolMember::NextNum);
+        let num_to_attrib = PoolBad::Shape(PoolMember::NumToAttrib);
+        let rows = [
+            ("[]", next_num),
+            ("{\"nextNum\":4294967296,\"numToAttrib\":{}}", next_num),
+            ("{\"nextNum\":-1,\"numToAttrib\":{}}", next_num),
+            ("{\"nextNum\":0}", num_to_attrib),
+            ("{\"nextNum\":0,\"numToAttrib\":[]}", num_to_attrib),
+            (
+                "{\"nextNum\":1,\"numToAttrib\":{\"00\":[\"a\",\"b\"]}}",
+                num_to_attrib,
+            ),
+            (
+                "{\"nextNum\":1,\"numToAttrib\":{\"+0\":[\"a\",\"b\"]}}",
+                num_to_attrib,
+            ),
+            (
+                "{\"nextNum\":1,\"numToAttrib\":{\"0\":[\"a\"]}}",
+                num_to_attrib,
+            ),
+            (
+                "{\"nextNum\":1,\"numToAttrib\":{\"0\":[\"a\",\"b\",\"c\"]}}",
+                num_to_attrib,
+            ),
+            (
+                "{\"nextNum\":2,\"numToAttrib\":{\"0\":[\"bold\",\"true\"]}}",
+                PoolBad::Gap(1),
+            ),
+            (
+                "{\"nextNum\":4294967295,\"numToAttrib\":{\"0\":[\"a\",\"b\"]}}",
+                PoolBad::Gap(1),
+            ),
+            (
+                "{\"nextNum\":1,\"numToAttrib\":{\"0\":[\"a\",\"b\"],\"10\":[\"a\",\"b\"],\"9\":[\"a\",\"b\"]}}",
+                PoolBad::Gap(9),
+            ),
+            (
+                "{\"nextNum\":2,\"numToAttrib\":{\"0\":[\"a\",\"b\"],\"1\":[\"a\",\"b\"]}}",
+                PoolBad::Twice(1),
+            ),
+        ];
+        for (text, bad) in rows {
+            assert_eq!(rt; read(rt.alloc(), text).err(), Some(bad));
+        }
+        Ok(())
+    }
+}
