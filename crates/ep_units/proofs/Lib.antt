@@ -3,3 +3,4 @@ pub mod Lone
 pub mod Back
 pub mod Cleaning
 pub mod Digits
+pub mod Reading

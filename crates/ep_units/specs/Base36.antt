@@ -1,5 +1,5 @@
 -- Numbers in base 36, by which changeset text writes each of its numbers.
-use Rattle.std.specs.Prelude.{ℕ, zero, suc, ◌+◌, ◌/◌, ◌%◌, cond, [], ◌∷◌, ◌++◌, nat_lt}
+use Rattle.std.specs.Prelude.{ℕ, zero, suc, ◌+◌, ◌-◌, ◌*◌, ◌/◌, ◌%◌, Bool, cond, if◌then◌else◌, ◌==◌, ◌&&◌, ◌||◌, [], ◌∷◌, ◌++◌, nat_lt, nat_le, length, drop, Option, Some, None, fold, take_while}
 use Rattle.ep_units.specs.Text.{Text}
 
 -- 0 to 9, then a to z
@@ -14,3 +14,28 @@ digits_in (suc k) n = cond (nat_lt n 36) (digit n ∷ []) (digits_in k (n / 36) 
 -- the shortest spelling of a number
 unfoldable pub write36 : ℕ → Text
 write36 n = digits_in (suc n) n
+
+-- 0 to 9 and a to z, and no capital
+abbrev pub is_digit : ℕ → Bool
+is_digit u = (nat_le 48 u && nat_le u 57) || (nat_le 97 u && nat_le u 122)
+
+-- the value of a digit
+abbrev pub digit_value : ℕ → ℕ
+digit_value u = if nat_le u 57 then u - 48 else u - 87
+
+-- the number that digits spell, the highest first
+abbrev pub value36 : Text → ℕ
+value36 digits = fold (λ value u. value * 36 + digit_value u) 0 digits
+
+-- the whole run of digits that begins at a place
+abbrev pub digits_at : Text → ℕ → Text
+digits_at us at = take_while is_digit (drop at us)
+
+-- a run of digits at a place, as its number and the place behind it: none without a digit, or where the number is above 4,294,967,295
+abbrev pub number_of : Text → ℕ → Option (ℕ × ℕ)
+number_of digits at =
+    if length digits == 0 || nat_lt 4294967295 (value36 digits) then None else Some (value36 digits, at + length digits)
+
+-- the number that begins at a place, and the place behind it
+unfoldable pub read36 : Text → ℕ → Option (ℕ × ℕ)
+read36 us at = number_of (digits_at us at) at

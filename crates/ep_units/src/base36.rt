@@ -1,13 +1,17 @@
 //! Numbers in base 36.
 
-ghost use Rattle.std.specs.Prelude.{◌≡◌, ◌<◌, ◌++◌, OnOk, OnErr};
-ghost use Rattle.ep_units.specs.Base36.{digit, write36};
+ghost use Rattle.std.specs.Prelude.{◌≡◌, ◌<◌, ◌≤◌, ◌++◌, OnOk, OnErr, IfSome, Some, None, if◌then◌else◌, nat_lt, length};
+ghost use Rattle.std.specs.List.{prefix_len};
+ghost use Rattle.ep_units.specs.Base36.{digit, digit_value, is_digit, read36, value36, write36};
 
 use crate::no_memory::NoMemory;
 use crate::units::Units;
 
 // 36 ^ 13 is above 2 ^ 64
 const MOST_DIGITS: usize = 13;
+
+/// The greatest number that is read.
+const MOST_READ: u64 = 4_294_967_295;
 
 /// Appends the shortest spelling of a number.
 pub fn write36(n: u64, out: &mut Units) -> Result<(), NoMemory>
@@ -37,6 +41,64 @@ fn digit(value: u64) -> u16
     }
 }
 
+/// The number that begins at a place, and the place behind its last digit.
+///
+/// None where no digit stands there, or where the number is above 4,294,967,295.
+#[tactic(auto, unfolding(crate::specs::Base36::read36))]
+pub fn read36(units: &[u16], at: usize) -> Option<(u64, usize)>
+    ensures number { result ≡ read36 units.now at }
+    ensures limit { IfSome result (λ r. r.0 ≤ 4294967295) }
+    ensures goes_on { IfSome result (λ r. at < r.1) }
+    ensures within { IfSome result (λ r. r.1 ≤ length units.now) }
+{
+    let rest = units.get(at..)?;
+    let len = digits_len(rest);
+    if len == 0 {
+        return None;
+    }
+    let value = value36(&rest[..len])?;
+    Some((value, at + len))
+}
+
+/// How many digits the units begin with.
+fn digits_len(units: &[u16]) -> usize
+    ensures len { result ≡ prefix_len is_digit units.now }
+    ensures within { result ≤ length units.now }
+{
+    units.iter().take_while(|unit| is_digit(**unit)).count()
+}
+
+/// The number that digits spell, if it is not too large to be read.
+fn value36(digits: &[u16]) -> Option<u64>
+    ensures { result ≡ (if nat_lt 4294967295 (value36 digits.now) then None else Some (value36 digits.now)) }
+{
+    let mut value = 0;
+    for digit in digits {
+        value = value * 36 + digit_value(*digit);
+        if value > MOST_READ {
+            return None;
+        }
+    }
+    Some(value)
+}
+
+fn is_digit(unit: u16) -> bool
+    ensures { result ≡ is_digit unit }
+{
+    (48 <= unit && unit <= 57) || (97 <= unit && unit <= 122)
+}
+
+/// The value of a digit. Other units are not asked for, and need no refusal.
+fn digit_value(unit: u16) -> u64
+    ensures { result ≡ digit_value unit }
+{
+    if unit <= 57 {
+        u64::from(unit.saturating_sub(48))
+    } else {
+        u64::from(unit.saturating_sub(87))
+    }
+}
+
 #[cfg(test)]
 mod tests {
     use super::*;
@@ -56,6 +118,29 @@ mod tests {
             write36(n, &mut out)?;
             let spelled = out.to_text_lossy(rt.alloc())?;
             assert_eq!(rt; spelled.strip_prefix("Z:"), Some(text));
+        }
+        Ok(())
+    }
+
+    #[test]
+    fn read(rt: HostRuntime) -> Result<(), Fail> {
+        for (text, at, number) in [
+            ("5g", 0, Some((196, 2))),
+            ("5g", 1, Some((16, 2))),
+            ("5g", 2, None),
+            ("5g", 3, None),
+            ("5g", usize::MAX, None),
+            ("", 0, None),
+            ("Z:01>0", 2, Some((1, 4))),
+            ("aB", 0, Some((10, 1))),
+            ("B", 0, None),
+            ("1z141z3", 0, Some((4294967295, 7))),
+            ("1z141z4", 0, None),
+            ("zzzzzzzzzzzzzzzzzzzz", 0, None),
+            ("00000000000000000000001z141z3$", 0, Some((4294967295, 29))),
+        ] {
+            let units = Units::from_str(rt.alloc(), text)?;
+            assert_eq!(rt; read36(units.as_slice(), at), number, "at {at} of {text}");
         }
         Ok(())
     }

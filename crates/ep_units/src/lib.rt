@@ -6,17 +6,20 @@
 
 mod base36;
 mod clean;
+mod grant;
 mod halves;
 mod laws;
 mod no_memory;
+mod order;
 mod pad_id;
 mod session;
 mod units;
 mod utf8;
 
-pub use base36::write36;
+pub use base36::{read36, write36};
+pub use grant::Grant;
 pub use halves::is_high;
-pub use laws::{utf8_and_units_are_one, well_formed_has_no_lone_half};
+pub use laws::{utf8_and_units_are_one, well_formed_has_no_lone_half, write36_is_read_back};
 pub use no_memory::NoMemory;
 pub use pad_id::PadId;
 pub use session::Session;
