@@ -6,16 +6,17 @@ use Rattle.std.specs.List.{list_any}
 use Rattle.std.specs.Ordering.{eq_by_cmp, ordering_reverse}
 use Rattle.std.specs.Cmp.Lexicographic.{nat_list_cmp_total}
 use Rattle.std.specs.FinMap.{slice_cmp-IsAntisymmetric, nat_cmp-IsAntisymmetric}
-use Rattle.std.specs.FinMap.Entries.{find, is_sorted, find-put, is_sorted-put, is_some-find, same_entries}
+use Rattle.std.specs.FinMap.Entries.{find, is_sorted, below_all, find-put, is_sorted-put, is_some-find, same_entries}
 use Rattle.std.proofs.lemmas.List.Folds.{list_any-append}
-use Rattle.ep_units.specs.Text.{Text, text_cmp, text_le}
-use Rattle.ep_attr.specs.AttrMap.{Pair, AttrMap, none, get, checked, insert, insert_some, map_of, keys, pointwise, value_after, later_value, earlier_value, value_left, after, join, early, rest}
+use Rattle.ep_units.specs.Text.{Text, text_cmp, text_eq, text_le}
+use Rattle.ep_attr.proofs.Keys.{first, second, find_below}
+use Rattle.ep_attr.specs.AttrMap.{Pair, AttrMap, none, get, checked, insert, with_pairs, of_pairs, insert_some, map_of, keys, pointwise, value_after, later_value, earlier_value, value_left, after, join, early, rest}
 
 -- texts that tie are equal
 pub exact_text : (a b : Text) → text_cmp a b ≡ Equal → a ≡ b
 exact_text = slice_cmp-IsAntisymmetric nat_cmp-IsAntisymmetric
 
-tied : (r : Ordering) → is_eq r ≡ true → r ≡ Equal
+pub tied : (r : Ordering) → is_eq r ≡ true → r ≡ Equal
 tied Less e = absurd (subst T (sym e) tt)
 tied Equal e = refl
 tied Greater e = absurd (subst T (sym e) tt)
@@ -23,7 +24,7 @@ tied Greater e = absurd (subst T (sym e) tt)
 pub exact_test : (a b : Text) → eq_by_cmp text_cmp a b ≡ true → a ≡ b
 exact_test a b e = exact_text a b (tied (text_cmp a b) e)
 
-pairs-checked : (ps : List Pair) (b : Bool) (e : is_sorted text_cmp ps ≡ b) (m : AttrMap) → T b → (checked ps b e m).pairs ≡ ps
+pub pairs-checked : (ps : List Pair) (b : Bool) (e : is_sorted text_cmp ps ≡ b) (m : AttrMap) → T b → (checked ps b e m).pairs ≡ ps
 pairs-checked ps true e m h = refl
 pairs-checked ps false e m h = absurd h
 
@@ -142,3 +143,61 @@ join-rest a b = same_values _ _ (λ q.
 
 pub early_comm : (a b : AttrMap) → early a b ≡ early b a
 early_comm a b = same_values _ _ (λ q. get-early a b q ∙ early_turned (get a q) (get b q) ∙ sym (get-early b a q))
+
+-- one pair joined onto a map is that pair inserted
+pub join_one : (m : AttrMap) (k v : Text) → join m (insert none k v) ≡ insert m k v
+join_one m k v = same_values _ _ (λ q.
+    get-join m (insert none k v) q ∙ ap (later_value (get m q)) (get-insert none k v q)
+    ∙ elim (eq_by_cmp text_cmp q k) as (λ b. later_value (get m q) (cond b (Some v) None) ≡ cond b (Some v) (get m q)) [ true ↦ refl | false ↦ refl ]
+    ∙ sym (get-insert m k v q))
+
+pub none-rest : (m : AttrMap) → rest none m ≡ m
+none-rest m = same_values _ _ (λ q. get-rest none m q)
+
+left_none : (a : Option Text) → value_left a None ≡ None
+left_none None = refl
+left_none (Some a) = refl
+
+pub rest-none : (m : AttrMap) → rest m none ≡ none
+rest-none m = same_values _ _ (λ q. get-rest m none q ∙ left_none (get m q))
+
+pub diamond : (a b : AttrMap) → join a (rest a b) ≡ join b (rest b a)
+diamond a b = join-rest a b ∙ early_comm a b ∙ sym (join-rest b a)
+
+with_last : (m : AttrMap) (ps : List Pair) (k v : Text) → with_pairs m (ps ++ (k, v) ∷ []) ≡ insert (with_pairs m ps) k v
+with_last m [] k v = refl
+with_last m (p ∷ ps) k v = with_last (insert m p.0 p.1) ps k v
+
+pub last_counts : (ps : List Pair) (k v q : Text) → get (of_pairs (ps ++ (k, v) ∷ [])) q ≡ cond (text_eq q k) (Some v) (get (of_pairs ps) q)
+last_counts ps k v q = ap (λ m. get m q) (with_last none ps k v) ∙ get-insert (of_pairs ps) k v q
+
+-- the value at a key of a map with pairs inserted, of which no two have one key
+get-with_pairs : (m : AttrMap) (ps : List Pair) (q : Text) → T (is_sorted text_cmp ps) → get (with_pairs m ps) q ≡ later_value (get m q) (find text_cmp q ps)
+get-with_pairs m [] q h = refl
+get-with_pairs m (p ∷ ps) q h =
+    get-with_pairs (insert m p.0 p.1) ps q (second _ _ h)
+    ∙ ap (λ o. later_value o (find text_cmp q ps)) (get-insert m p.0 p.1 q)
+    ∙ go _ refl
+  where
+    go : (b : Bool) → eq_by_cmp text_cmp q p.0 ≡ b → later_value (cond b (Some p.1) (get m q)) (find text_cmp q ps) ≡ later_value (get m q) (cond b (Some p.1) (find text_cmp q ps))
+    go true e = ap (later_value (Some p.1)) (find_below q ps (subst (λ x. T (below_all text_cmp x ps)) (sym (exact_text q p.0 (tied _ e))) (first _ _ h)))
+    go false e = refl
+
+-- a map's own pairs make it again
+pub of_own_pairs : (m : AttrMap) → of_pairs m.pairs ≡ m
+of_own_pairs m = same_values _ _ (λ q. get-with_pairs none m.pairs q m.sorted ∙ join_none (get m q))
+
+with_joined : (m : AttrMap) (ps : List Pair) → with_pairs m ps ≡ join m (of_pairs ps)
+with_joined m [] = sym (join-none m)
+with_joined m (p ∷ ps) =
+    with_joined (insert m p.0 p.1) ps
+    ∙ ap (λ n. join n (of_pairs ps)) (sym (join_one m p.0 p.1))
+    ∙ join-join m (insert none p.0 p.1) (of_pairs ps)
+    ∙ ap (join m) (sym (with_joined (insert none p.0 p.1) ps))
+
+with_both : (m : AttrMap) (ps qs : List Pair) → with_pairs m (ps ++ qs) ≡ with_pairs (with_pairs m ps) qs
+with_both m [] qs = refl
+with_both m (p ∷ ps) qs = with_both (insert m p.0 p.1) ps qs
+
+pub of_pairs-append : (ps qs : List Pair) → of_pairs (ps ++ qs) ≡ join (of_pairs ps) (of_pairs qs)
+of_pairs-append ps qs = with_both none ps qs ∙ with_joined (of_pairs ps) qs

@@ -30,6 +30,15 @@ abbrev pub insert_some : AttrMap → Text → Option Text → AttrMap
 insert_some m k None = m
 insert_some m k (Some v) = insert m k v
 
+-- a map with pairs inserted in their order, the later value counting
+abbrev pub with_pairs : AttrMap → List Pair → AttrMap
+with_pairs m [] = m
+with_pairs m (p ∷ ps) = with_pairs (insert m p.0 p.1) ps
+
+-- the map of pairs in any order, the later value counting
+abbrev pub of_pairs : List Pair → AttrMap
+of_pairs ps = with_pairs none ps
+
 -- the map that has these values at these keys
 abbrev pub map_of : (Text → Option Text) → List Text → AttrMap
 map_of f [] = none

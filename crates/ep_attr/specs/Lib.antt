@@ -1,3 +1,5 @@
 pub mod AttrMap
 pub mod Codes
 pub mod Attrs
+pub mod Merged
+pub mod Rule

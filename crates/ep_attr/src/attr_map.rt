@@ -1,11 +1,22 @@
 //! An attribute map as its pairs.
 
-ghost use Rattle.std.specs.Prelude.{◌≡◌, length, IfOk};
-ghost use Rattle.ep_attr.specs.AttrMap.{none};
+ghost use Rattle.std.specs.Prelude.{◌≡◌, length, option_map, IfOk};
+ghost use Rattle.std.specs.FinMap.Entries.{find};
+ghost use Rattle.ep_units.specs.Text.{text_cmp};
+ghost use Rattle.ep_attr.specs.AttrMap.{none, get, insert, of_pairs, pointwise, after, join, rest, has_first};
+ghost use Rattle.ep_attr.specs.Attrs.{pairs_of};
+ghost use Rattle.ep_attr.specs.Rule.{value_of};
 
+use crate::walk::{Rule, merged};
 use ep_units::{NoMemory, Units};
 use std::alloc::Global;
 use std::marker::Model;
+
+// `insertorder`
+const INSERT_ORDER: [u16; 11] = [105, 110, 115, 101, 114, 116, 111, 114, 100, 101, 114];
+
+// `first`
+const FIRST: [u16; 5] = [102, 105, 114, 115, 116];
 
 /// A key and its value.
 #[derive(Drop)]
@@ -60,6 +71,98 @@ impl AttrMap {
         }
         Ok(AttrMap { pairs })
     }
+
+    /// The map of pairs in any order, the later value counting.
+    pub fn read(alloc: Global, pairs: &[Attr]) -> Result<AttrMap, NoMemory>
+        ensures { IfOk result (λ m. m ≡ of_pairs (pairs_of pairs.now)) }
+    {
+        match pairs {
+            [] => Ok(AttrMap::none(alloc)),
+            [pair] => AttrMap::one(alloc, pair),
+            _ => {
+                let (front, rear) = pairs.split_at(pairs.len() / 2);
+                let front = AttrMap::read(alloc, front)?;
+                let rear = AttrMap::read(alloc, rear)?;
+                front.compose_change(alloc, &rear)
+            }
+        }
+    }
+
+    /// The map of one pair.
+    fn one(alloc: Global, pair: &Attr) -> Result<AttrMap, NoMemory>
+        ensures { IfOk result (λ m. m ≡ insert none pair.now.key pair.now.value) }
+    {
+        let key = pair.key.copy(alloc)?;
+        let value = pair.value.copy(alloc)?;
+        Ok(AttrMap {
+            pairs: vec![in alloc; Attr { key, value }]?,
+        })
+    }
+
+    /// The pairs by rising key.
+    pub fn pairs(&self) -> &[Attr]
+        ensures { pairs_of result.now ≡ self.now.pairs }
+    {
+        self.pairs.as_slice()
+    }
+
+    /// The value of a key.
+    pub fn get(&self, key: &[u16]) -> Option<&Units>
+        ensures { option_map (λ value. value.now) result ≡ get self.now key.now }
+    {
+        find(self.pairs(), key)
+    }
+
+    /// Whether an insertion with this map comes first at its place.
+    pub fn has_first(&self) -> bool
+        ensures { result ≡ has_first self.now }
+    {
+        match self.get(&INSERT_ORDER) {
+            None => false,
+            Some(value) => FIRST.as_slice().cmp(value.as_slice()).is_eq(),
+        }
+    }
+
+    /// The map of the values that the rule makes of the values in both maps.
+    fn by_rule(&self, alloc: Global, rule: Rule, other: &AttrMap) -> Result<AttrMap, NoMemory>
+        ensures { IfOk result (λ m. m ≡ pointwise (value_of rule) self.now other.now) }
+    {
+        let pairs = merged(alloc, rule, &self.pairs, &other.pairs)?;
+        Ok(AttrMap { pairs })
+    }
+
+    /// A document's map after a change's, of which an empty value removes.
+    pub fn apply_doc(&self, alloc: Global, change: &AttrMap) -> Result<AttrMap, NoMemory>
+        ensures { IfOk result (λ m. m ≡ after self.now change.now) }
+    {
+        self.by_rule(alloc, Rule::After, change)
+    }
+
+    /// Both maps, the later value counting.
+    pub fn compose_change(&self, alloc: Global, later: &AttrMap) -> Result<AttrMap, NoMemory>
+        ensures { IfOk result (λ m. m ≡ join self.now later.now) }
+    {
+        self.by_rule(alloc, Rule::Join, later)
+    }
+}
+
+/// The value of the first pair with the key.
+fn find<'a>(pairs: &'a [Attr], key: &[u16]) -> Option<&'a Units>
+    ensures { option_map (λ value. value.now) result ≡ find text_cmp key.now (pairs_of pairs.now) }
+{
+    for pair in pairs {
+        if key.cmp(pair.key.as_slice()).is_eq() {
+            return Some(&pair.value);
+        }
+    }
+    None
+}
+
+/// `b` without the keys that `a` sets to an equal or earlier value.
+pub fn follow_change(alloc: Global, a: &AttrMap, b: &AttrMap) -> Result<AttrMap, NoMemory>
+    ensures { IfOk result (λ m. m ≡ rest a.now b.now) }
+{
+    a.by_rule(alloc, Rule::Rest, b)
 }
 
 #[cfg(test)]
@@ -67,22 +170,76 @@ mod tests {
     use super::*;
     use std::test::Fail;
 
-    #[test]
-    fn copied(rt: HostRuntime) -> Result<(), Fail> {
-        let alloc = rt.alloc();
-        let none = AttrMap::none(alloc).copy(alloc)?;
-        assert!(rt; none.pairs.is_empty());
-        let key = Units::from_str(alloc, "bold")?;
-        let value = Units::from_str(alloc, "true")?;
-        let map = AttrMap {
-            pairs: vec![in alloc; Attr { key, value }]?,
-        };
-        let copy = map.copy(alloc)?;
-        assert_eq!(rt; copy.pairs.len(), 1);
-        for pair in &copy.pairs {
-            assert_eq!(rt; pair.key.to_text_lossy(alloc)?.as_str(), "bold");
-            assert_eq!(rt; pair.value.to_text_lossy(alloc)?.as_str(), "true");
+    /// The map of pairs that are written as `key=value,key=value`.
+    fn map(alloc: Global, text: &str) -> Result<AttrMap, NoMemory> {
+        let mut pairs = Vec::new(alloc);
+        for pair in text.split(',') {
+            if let Some((key, value)) = pair.split_once('=') {
+                pairs.push(Attr {
+                    key: Units::from_str(alloc, key)?,
+                    value: Units::from_str(alloc, value)?,
+                })?;
+            }
         }
+        AttrMap::read(alloc, &pairs)
+    }
+
+    fn same(a: &AttrMap, b: &AttrMap) -> bool {
+        a.pairs().len() == b.pairs().len()
+            && a.pairs().iter().zip(b.pairs().iter()).all(|(a, b)| {
+                a.key.as_slice() == b.key.as_slice() && a.value.as_slice() == b.value.as_slice()
+            })
+    }
+
+    #[test]
+    fn operations(rt: HostRuntime) -> Result<(), Fail> {
+        let alloc = rt.alloc();
+        for (a, b, after, joined, followed) in [
+            (
+                "color=red",
+                "color=blue",
+                "color=blue",
+                "color=blue",
+                "color=blue",
+            ),
+            ("color=blue", "color=red", "color=red", "color=red", ""),
+            ("bold=true", "bold=", "", "bold=", "bold="),
+            ("bold=", "bold=true", "bold=true", "bold=true", ""),
+            ("b=1,a=1", "c=1,b=", "a=1,c=1", "a=1,b=,c=1", "b=,c=1"),
+            ("a=1", "", "a=1", "a=1", ""),
+            ("", "a=,b=2", "b=2", "a=,b=2", "a=,b=2"),
+            ("a=1,a=2", "a=1", "a=1", "a=1", "a=1"),
+        ] {
+            let a = map(alloc, a)?;
+            let b = map(alloc, b)?;
+            assert!(rt; same(&a.copy(alloc)?, &a));
+            assert!(rt; same(&a.apply_doc(alloc, &b)?, &map(alloc, after)?));
+            assert!(rt; same(&a.compose_change(alloc, &b)?, &map(alloc, joined)?));
+            assert!(rt; same(&follow_change(alloc, &a, &b)?, &map(alloc, followed)?));
+        }
+        Ok(())
+    }
+
+    #[test]
+    fn looked_up(rt: HostRuntime) -> Result<(), Fail> {
+        let alloc = rt.alloc();
+        assert!(rt; AttrMap::none(alloc).pairs().is_empty());
+        let map = map(alloc, "b=1,a=2,b=3")?;
+        let key = Units::from_str(alloc, "b")?;
+        assert!(rt;
+            map.get(key.as_slice())
+                .is_some_and(|value| value.as_slice() == [51].as_slice())
+        );
+        assert_eq!(rt; map.pairs().len(), 2);
+        assert!(rt; !map.has_first());
+        Ok(())
+    }
+
+    #[test]
+    fn first(rt: HostRuntime) -> Result<(), Fail> {
+        let alloc = rt.alloc();
+        assert!(rt; map(alloc, "bold=true,insertorder=first")?.has_first());
+        assert!(rt; !map(alloc, "insertorder=last")?.has_first());
         Ok(())
     }
 }
