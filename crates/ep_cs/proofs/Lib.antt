@@ -3,6 +3,7 @@ pub mod Composed
 pub mod Items
 pub mod Diamond
 pub mod Pairs
+pub mod Whole
 pub mod Plain
 pub mod PlainAfter
 pub mod Inserting

@@ -146,7 +146,7 @@ when_both : (h a b c : Bool) → (a ≡ true → b ≡ true → c ≡ true) → 
 when_both true a b c f e g = f e g
 when_both false a b c f e g = refl
 
-same_cells : (cs : List Cell) → map (λ (c : Cell). c) cs ≡ cs
+pub same_cells : (cs : List Cell) → map (λ (c : Cell). c) cs ≡ cs
 same_cells [] = refl
 same_cells (c ∷ cs) = ap (λ ds. c ∷ ds) (same_cells cs)
 

@@ -1,7 +1,7 @@
 //! The laws of edits, over the definitions that every call on changes cites.
 
 ghost use Rattle.std.specs.Prelude.{◌≡◌, ℕ, ◌+◌, ◌≤◌, Bool, true, not, List, [], ◌++◌, length, take, drop};
-ghost use Rattle.ep_units.specs.Text.{Text};
+ghost use Rattle.ep_units.specs.Text.{Text, is_well_formed};
 ghost use Rattle.ep_cs.specs.Doc.{Cell, Doc, text_of};
 ghost use Rattle.ep_cs.specs.Edit.{Edit, IsSettled, apply, compose, identity, items, apply_items};
 ghost use Rattle.ep_cs.specs.Change.{Change, stamped};
@@ -75,6 +75,13 @@ pub fn pairs_are_kept()
         → length a.places ≡ length b.places → length doc ≡ length a.places → ArePieces a.places a.last
         → keeps_pairs a.places (text_of doc) ≡ true → keeps_pairs b.places (text_of doc) ≡ true
         → keeps_pairs (follow side a b).places (text_of (apply a doc)) ≡ true }
+{}
+
+/// A text stays well-formed under an edit that inserts texts and cuts no pair.
+pub fn texts_stay_well_formed()
+    ensures { (e : Edit) (doc : Doc) → length doc ≡ length e.places → ArePieces e.places e.last
+        → keeps_pairs e.places (text_of doc) ≡ true → is_well_formed (text_of doc) ≡ true
+        → is_well_formed (text_of (apply e doc)) ≡ true }
 {}
 
 /// A change that fits a document is told by what it does there.
