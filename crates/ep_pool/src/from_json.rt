@@ -258,6 +258,11 @@ mod tests {
             ("[]", next_num),
             ("{\"nextNum\":4294967296,\"numToAttrib\":{}}", next_num),
             ("{\"nextNum\":-1,\"numToAttrib\":{}}", next_num),
+            ("{\"nextNum\":0.5,\"numToAttrib\":{}}", next_num),
+            (
+                "{\"nextNum\":1.0,\"numToAttrib\":{\"0\":[\"a\",\"b\"]}}",
+                next_num,
+            ),
             ("{\"nextNum\":0}", num_to_attrib),
             ("{\"nextNum\":0,\"numToAttrib\":[]}", num_to_attrib),
             (
