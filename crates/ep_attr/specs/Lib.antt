@@ -3,3 +3,4 @@ pub mod Codes
 pub mod Attrs
 pub mod Merged
 pub mod Rule
+pub mod Equal

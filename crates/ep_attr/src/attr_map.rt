@@ -10,6 +10,7 @@ ghost use Rattle.ep_attr.specs.Rule.{value_of};
 use crate::walk::{Rule, merged};
 use ep_units::{NoMemory, Units};
 use std::alloc::Global;
+use std::hash::{Hash, Hasher};
 use std::marker::Model;
 
 // `insertorder`
@@ -19,10 +20,23 @@ const INSERT_ORDER: [u16; 11] = [105, 110, 115, 101, 114, 116, 111, 114, 100, 10
 const FIRST: [u16; 5] = [102, 105, 114, 115, 116];
 
 /// A key and its value.
-#[derive(Drop)]
+#[derive(Drop, PartialEq, Eq)]
 pub struct Attr {
     pub key: Units,
     pub value: Units,
+}
+
+impl Hash for Attr {
+    ghost use Rattle.ep_attr.specs.Equal.{attr_input, same_input};
+
+    ghost hash_input = { attr_input };
+
+    ghost respects_eq = { same_input };
+
+    fn hash<H: Hasher>(&self, state: &mut H) {
+        self.key.as_slice().hash(state);
+        self.value.as_slice().hash(state);
+    }
 }
 
 /// Pairs by strictly rising key.

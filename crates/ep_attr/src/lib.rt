@@ -6,6 +6,7 @@
 
 mod attr_map;
 mod laws;
+mod same;
 mod walk;
 
 pub use attr_map::{Attr, AttrMap, follow_change};
