@@ -3,9 +3,10 @@ use Rattle.std.proofs.Common.{◌≡◌, ℕ, zero, suc, ◌+◌, ◌<◌, ◌�
 use Rattle.std.proofs.lemmas.List.Sums.{passes_at_first}
 use Rattle.std.proofs.lemmas.Map.Keys.{apart_from_distinct}
 use Rattle.std.proofs.lemmas.Option.{same_Some, slice_get-get_or}
-use Rattle.std.proofs.lemmas.Slice.Eq.{bytes_eq-Decides}
 use Rattle.std.specs.List.{IsDistinct}
 use Rattle.ep_attr.specs.AttrMap.{Pair}
+use Rattle.ep_attr.proofs.Maps.{exact_test}
+use Rattle.ep_attr.proofs.SameMap.{both_true, itself}
 use Rattle.ep_pool.specs.declared.from_json.PoolBad.{PoolBad}
 use Rattle.ep_pool.specs.declared.from_json.PoolBad.TheVariants.{Shape, Gap, Twice, NoMemory}
 use Rattle.ep_pool.specs.Pool.{has, number_of, put, same_pair}
@@ -17,11 +18,11 @@ both false b P Q f g h = absurd (true≢false (sym h))
 
 pub same_pair_is : (p q : Pair) → same_pair p q ≡ true → p ≡ q
 same_pair_is p q h =
-    let parts = both _ _ (p.0 ≡ q.0) (p.1 ≡ q.1) (bytes_eq-Decides p.0 q.0).0 (bytes_eq-Decides p.1 q.1).0 h in
+    let parts = both _ _ (p.0 ≡ q.0) (p.1 ≡ q.1) (exact_test p.0 q.0) (exact_test p.1 q.1) h in
     λ i. (parts.0 i, parts.1 i)
 
 pub same_pair_itself : (p : Pair) → same_pair p p ≡ true
-same_pair_itself p = rw ((bytes_eq-Decides p.0 p.0).1 refl) ((bytes_eq-Decides p.1 p.1).1 refl)
+same_pair_itself p = both_true _ _ (itself p.0) (itself p.1)
 
 within_at : (b : Bool) (p q : Pair) (qs : List Pair) → same_pair p q ≡ b → (has qs p ≡ true → number_of qs p < length qs) → has (q ∷ qs) p ≡ true → number_of (q ∷ qs) p < length (q ∷ qs)
 within_at true p q qs is rest there = rw is (omega arith)

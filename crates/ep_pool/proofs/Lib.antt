@@ -1,3 +1,4 @@
+pub mod Attrs
 pub mod Reading
 pub mod Gathering
 pub mod Whole

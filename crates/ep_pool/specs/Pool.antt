@@ -1,11 +1,12 @@
 -- Pools: lists of distinct pairs, numbered from 0.
-use Rattle.std.specs.Prelude.{◌≡◌, ℕ, Bool, ◌&&◌, cond, List, [], ◌∷◌, ◌++◌, nat_eq}
-use Rattle.std.specs.Cmp.Lexicographic.{pointwise}
-use Rattle.std.specs.List.{IsDistinct, IsDistinct-prop, list_any, position_or_len}
+use Rattle.std.specs.Prelude.{◌≡◌, ℕ, Bool, false, ◌&&◌, cond, List, [], ◌∷◌, ◌++◌}
+use Rattle.std.specs.List.{AllByRecursion, IsDistinct, IsDistinct-prop, list_any, position_or_len}
 use Rattle.std.specs.Coded.{Coded, coded_ℕ, coded_list, coded×}
 use base.Stored.{coded_via}
 use mathlib.Core.HLevel.{Σ_prop_path}
+use Rattle.ep_units.specs.Text.{text_eq}
 use Rattle.ep_attr.specs.AttrMap.{Pair}
+use Rattle.ep_attr.specs.Attrs.{pairs_of}
 use Rattle.ep_attr.specs.declared.attr_map.Attr.{Attr}
 
 abbrev pub pair_of : Attr → Pair
@@ -13,7 +14,10 @@ pair_of a = (a.key, a.value)
 
 -- the same key and the same value
 abbrev pub same_pair : Pair → Pair → Bool
-same_pair p q = pointwise nat_eq p.0 q.0 && pointwise nat_eq p.1 q.1
+same_pair p q = text_eq p.0 q.0 && text_eq p.1 q.1
+
+abbrev pub same_attr : Attr → Attr → Bool
+same_attr a b = same_pair (pair_of a) (pair_of b)
 
 -- the pair is there
 abbrev pub has : List Pair → Pair → Bool
@@ -26,6 +30,16 @@ put ps p = cond (has ps p) ps (ps ++ p ∷ [])
 -- the place of the pair, or how many there are where it isn't there
 abbrev pub number_of : List Pair → Pair → ℕ
 number_of ps p = position_or_len (same_pair p) ps
+
+apart_pairs : (a : Attr) (bs : List Attr) → AllByRecursion (λ b. same_attr a b ≡ false) bs → AllByRecursion (λ q. same_pair (pair_of a) q ≡ false) (pairs_of bs)
+apart_pairs a [] h = tt
+apart_pairs a (b ∷ bs) h = (h.0, apart_pairs a bs h.1)
+
+-- the pairs of distinct attributes are distinct
+pub distinct_pairs : (attrs : List Attr) → IsDistinct same_attr attrs → IsDistinct same_pair (pairs_of attrs)
+unfolding IsDistinct
+distinct_pairs [] h = tt
+distinct_pairs (a ∷ attrs) h = (apart_pairs a attrs h.0, distinct_pairs attrs h.1)
 
 -- distinct pairs, and how many more can be put without memory
 pub record Pool : Type 0 where

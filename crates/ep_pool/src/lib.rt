@@ -4,7 +4,6 @@
 //! of changesets, which name attributes by these numbers, are not of this crate.
 #![tactic(auto)]
 
-mod entry;
 mod from_json;
 mod laws;
 mod pool;

@@ -28,8 +28,8 @@ impl Pool {
     {
         let mut members = Map::new(alloc);
         let mut number = Buffer::new();
-        for (n, entry) in self.entries().iter().enumerate() {
-            let json = attr_json(alloc, entry.attr())?;
+        for (n, attr) in self.attrs().iter().enumerate() {
+            let json = attr_json(alloc, attr)?;
             serde_json::put(&mut members, alloc, number.format(n), json)?;
         }
         Ok(members)
