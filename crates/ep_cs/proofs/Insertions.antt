@@ -4,7 +4,7 @@ use Rattle.ep_cs.specs.Doc.{Cell}
 use Rattle.ep_cs.specs.Edit.{IsSettled, compose, inserts, settle, identity}
 use Rattle.ep_cs.specs.Fits.{is_identity}
 use Rattle.ep_cs.specs.Splice.{kept, dropped, splice}
-use Rattle.ep_cs.proofs.Inserting.{settle-inserts}
+use Rattle.ep_cs.proofs.Canonical.{settle-inserts}
 use Rattle.ep_cs.proofs.Items.{settle_settled, identity-compose}
 use Rattle.ep_cs.proofs.Splices.{length-splice}
 

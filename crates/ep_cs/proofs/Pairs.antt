@@ -1,10 +1,8 @@
 -- No pair is cut by what follows.
-use Rattle.std.proofs.Common.{◌≡◌, Bool, true, false, cond, not, ◌&&◌, ◌||◌, List, [], ◌∷◌, ◌++◌, ◌⊎◌, inl, inr, map, length, refl, sym, ap, ◌∙◌, subst, T, is_eq, arith, append_assoc, append-nil, ap₂}
+use Rattle.std.proofs.Common.{◌≡◌, Bool, true, false, cond, not, ◌&&◌, ◌||◌, List, [], ◌∷◌, ◌++◌, ◌⊎◌, inl, inr, map, length, refl, sym, ap, ◌∙◌, subst, T, arith, append_assoc, append-nil, ap₂}
 use Rattle.std.proofs.lemmas.List.{map-append}
-use Rattle.std.specs.Cmp.Lexicographic.{nat_list_cmp_total}
-use Rattle.std.specs.Cmp.{tied_itself}
 use Rattle.ep_units.specs.Text.{Text, is_high, is_low, is_paired, is_well_formed, text_eq}
-use Rattle.ep_attr.specs.AttrMap.{AttrMap, Pair, none, join, rest, same_pairs, same_map}
+use Rattle.ep_attr.specs.AttrMap.{AttrMap, none, join, rest, same_map}
 use Rattle.ep_cs.specs.Doc.{Cell, Doc, text_of, dressed}
 use Rattle.ep_cs.specs.Edit.{Fate, Place, Edit, Step, is_empty, at_place, over, apply, compose, steps_of, steps_from, steps_over, step_over_new, fate_over, pieces, inserts, settle}
 use Rattle.ep_cs.specs.Edit.Fate.{Drop, Keep}
@@ -13,46 +11,11 @@ use Rattle.ep_cs.specs.Steps.{passed, run}
 use Rattle.ep_cs.proofs.Composed.{run-steps_from, passed-steps_from}
 use Rattle.ep_cs.specs.Fits.{same_fate, goes_on, keeps_pairs, ArePieces}
 use Rattle.ep_cs.specs.Follow.{goes_first, passes, follow_gap, follow_place, follow_steps, follow}
-use Rattle.ep_attr.specs.Codes.{same_pairs_map}
 use Rattle.ep_attr.proofs.Maps.{exact_test}
-
-pub both_true : (a b : Bool) → a ≡ true → b ≡ true → (a && b) ≡ true
-both_true true b e h = h
-both_true false b e h = e
-
-pub first_true : (a b : Bool) → (a && b) ≡ true → a ≡ true
-first_true true b e = refl
-first_true false b e = e
-
-pub second_true : (a b : Bool) → (a && b) ≡ true → b ≡ true
-second_true true b e = e
-second_true false b e = absurd (subst T (sym e) tt)
+use Rattle.ep_attr.proofs.SameMap.{both_true, first_true, second_true, exact_map, same_map_itself}
 
 pub same_text : (a b : Text) → text_eq a b ≡ true → a ≡ b
 same_text = exact_test
-
-exact_pairs : (ps qs : List Pair) → same_pairs ps qs ≡ true → ps ≡ qs
-exact_pairs [] [] e = refl
-exact_pairs [] (q ∷ qs) e = absurd (subst T (sym e) tt)
-exact_pairs (p ∷ ps) [] e = absurd (subst T (sym e) tt)
-exact_pairs (p ∷ ps) (q ∷ qs) e =
-    let k = same_text p.0 q.0 (first_true _ _ e) in
-    let v = same_text p.1 q.1 (first_true _ _ (second_true (text_eq p.0 q.0) _ e)) in
-    let r = exact_pairs ps qs (second_true (text_eq p.1 q.1) _ (second_true (text_eq p.0 q.0) _ e)) in
-    λ i. (k i, v i) ∷ r i
-
-pub exact_map : (a b : AttrMap) → same_map a b ≡ true → a ≡ b
-exact_map a b e = same_pairs_map a b (exact_pairs a.pairs b.pairs e)
-
-pub itself : (t : Text) → text_eq t t ≡ true
-itself t = ap is_eq (tied_itself nat_list_cmp_total t)
-
-pairs_themselves : (ps : List Pair) → same_pairs ps ps ≡ true
-pairs_themselves [] = refl
-pairs_themselves (p ∷ ps) = both_true _ _ (itself p.0) (both_true _ _ (itself p.1) (pairs_themselves ps))
-
-pub same_map_itself : (m : AttrMap) → same_map m m ≡ true
-same_map_itself m = pairs_themselves m.pairs
 
 -- whether the next step passes a place with this fate
 abbrev next_is : Fate → List Step → Bool

@@ -6,7 +6,8 @@ use Rattle.ep_cs.specs.Doc.{Cell, Doc, text_of, dressed}
 use Rattle.ep_cs.specs.Edit.{Fate, Place, Edit, at_place, over, apply}
 use Rattle.ep_cs.specs.Edit.Fate.{Drop, Keep}
 use Rattle.ep_cs.specs.Fits.{goes_on, keeps_pairs, ArePieces}
-use Rattle.ep_cs.proofs.Pairs.{both_true, first_true, second_true, same_cells}
+use Rattle.ep_attr.proofs.SameMap.{both_true, first_true, second_true}
+use Rattle.ep_cs.proofs.Pairs.{same_cells}
 
 -- a well-formed text may stand behind one that ends in no first half
 paired-append : (half : Bool) (t us : Text) → is_paired half t ≡ true → is_well_formed us ≡ true → is_paired half (t ++ us) ≡ true

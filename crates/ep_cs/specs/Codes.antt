@@ -1,15 +1,18 @@
 -- Codes of edits and changes, by which they can be models' values.
-use Rattle.std.specs.Prelude.{◌≡◌, ℕ, Bool, true, false, List, Option, Some, None, refl}
-use Rattle.std.specs.Coded.{Coded, coded_ℕ, coded_bool, coded_list, coded×, coded_option, code_by}
+use Rattle.std.specs.Prelude.{◌≡◌, ℕ, Bool, true, false, List, Option, Some, None, ◌⊎◌, refl}
+use Rattle.std.proofs.Common.{inl, inr}
+use Rattle.std.specs.Coded.{Coded, coded_ℕ, coded_bool, coded_list, coded×, coded⊎, coded_option, code_by}
 use Rattle.ep_attr.specs.AttrMap.{AttrMap}
 use Rattle.ep_attr.specs.Codes.{coded_map}
 use Rattle.ep_cs.specs.Doc.{Cell}
-use Rattle.ep_cs.specs.Edit.{Fate, Place, Edit}
+use Rattle.ep_cs.specs.Edit.{Fate, Place, Edit, Step}
+use Rattle.ep_cs.specs.Edit.Step.{Insert, Pass}
 use Rattle.ep_cs.specs.Edit.Fate.{Drop, Keep}
 use Rattle.ep_cs.specs.declared.op.Kind.{Kind}
 use Rattle.ep_cs.specs.declared.op.Kind.TheVariants as kind
 use Rattle.ep_cs.specs.declared.op.Op.{Op}
 use Rattle.ep_cs.specs.Change.{Change}
+use Rattle.ep_cs.specs.Draft.{Draft}
 
 abbrev pub coded_cell : Coded Cell
 coded_cell = code_by (ℕ × AttrMap) (coded× coded_ℕ coded_map) (λ c. (c.unit, c.attrs)) (λ p. record { unit = p.0; attrs = p.1 }) (λ _. refl)
@@ -60,3 +63,23 @@ coded_op =
 
 abbrev pub coded_change : Coded Change
 coded_change = code_by (Edit × List Op) (coded× coded_edit (coded_list coded_op)) (λ c. (c.edit, c.runs)) (λ p. record { edit = p.0; runs = p.1 }) (λ _. refl)
+
+abbrev pub step_parts : Step → Cell ⊎ Fate
+step_parts (Insert c) = inl c
+step_parts (Pass f) = inr f
+
+abbrev pub parts_step : Cell ⊎ Fate → Step
+parts_step (inl c) = Insert c
+parts_step (inr f) = Pass f
+
+pub parts_step_parts : (s : Step) → parts_step (step_parts s) ≡ s
+parts_step_parts (Insert c) = refl
+parts_step_parts (Pass f) = refl
+
+abbrev pub coded_steps : Coded (List Step)
+coded_steps = coded_list (code_by (Cell ⊎ Fate) (coded⊎ coded_cell coded_fate) step_parts parts_step parts_step_parts)
+
+abbrev pub coded_draft : Coded Draft
+coded_draft =
+    code_by (ℕ × (List Step × List ℕ)) (coded× coded_ℕ (coded× coded_steps (coded_list coded_ℕ)))
+    (λ d. (d.old, (d.steps, d.marks))) (λ p. record { old = p.0; steps = p.1.0; marks = p.1.1 }) (λ _. refl)

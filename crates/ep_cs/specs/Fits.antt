@@ -2,7 +2,7 @@
 use Rattle.std.specs.Prelude.{◌≡◌, Bool, true, false, not, ◌&&◌, ◌||◌, List, [], ◌∷◌, length}
 use Rattle.ep_units.specs.Text.{Text, is_high, is_well_formed}
 use Rattle.ep_attr.specs.AttrMap.{is_none, same_map}
-use Rattle.ep_cs.specs.Doc.{Cell, Doc, text_of}
+use Rattle.ep_cs.specs.Doc.{Cell, Doc, text_of, is_document}
 use Rattle.ep_cs.specs.Edit.{Fate, Place, Edit, is_empty}
 use Rattle.ep_cs.specs.Edit.Fate.{Drop, Keep}
 use Rattle.ep_cs.specs.Change.{Change, stamped}
@@ -34,6 +34,11 @@ pub record Fits (c : Change) (doc : Doc) : Type 0 where
 abbrev pub ArePieces : List Place → List Cell → Type 0
 ArePieces [] last = is_well_formed (text_of last) ≡ true
 ArePieces (p ∷ ps) last = (is_well_formed (text_of p.before) ≡ true) × ArePieces ps last
+
+-- each piece that an edit inserts is a document
+abbrev pub AreDocuments : List Place → List Cell → Type 0
+AreDocuments [] last = is_document last ≡ true
+AreDocuments (p ∷ ps) last = (is_document p.before ≡ true) × AreDocuments ps last
 
 abbrev pub is_plain : Fate → Bool
 is_plain Drop = false

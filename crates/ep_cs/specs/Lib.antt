@@ -11,4 +11,10 @@ pub mod Rebase
 pub mod Plain
 pub mod Spelling
 pub mod Codes
-pub mod PlainChange
+pub mod NormalRuns
+pub mod Written
+pub mod Room
+pub mod Taken
+pub mod Lines
+pub mod Draft
+pub mod Packed

@@ -1,6 +1,12 @@
 //! The operations of changeset text.
 
+ghost use Rattle.std.specs.Prelude.{◌≡◌, ◌≤◌, IfOk};
+ghost use Rattle.ep_cs.specs.Runs.{inserted, passed};
+ghost use Rattle.ep_cs.specs.Normal.{joins, is_bare, same_kind};
+
 use ep_attr::AttrMap;
+use ep_units::NoMemory;
+use std::alloc::Global;
 
 /// What an operation does with its units.
 #[derive(Clone, Copy, Debug, PartialEq, Eq)]
@@ -10,6 +16,20 @@ pub enum Kind {
     Insert,
 }
 
+impl Kind {
+    /// Whether both are the same.
+    fn is(self, other: Kind) -> bool
+        ensures { result ≡ same_kind self other }
+    {
+        match (self, other) {
+            (Kind::Keep, Kind::Keep) => true,
+            (Kind::Drop, Kind::Drop) => true,
+            (Kind::Insert, Kind::Insert) => true,
+            (_, _) => false,
+        }
+    }
+}
+
 /// An operation: so many units, and the newlines that they hold, the last of them at their end.
 #[derive(Drop)]
 pub struct Op {
@@ -17,4 +37,57 @@ pub struct Op {
     pub units: u32,
     pub lines: u32,
     pub attrs: AttrMap,
+}
+
+impl Op {
+    /// How many units of the bank it inserts.
+    pub fn inserted(&self) -> u32
+        ensures is { result ≡ inserted self.now.kind self.now.units }
+        ensures within { result ≤ self.now.units }
+    {
+        match self.kind {
+            Kind::Insert => self.units,
+            _ => 0,
+        }
+    }
+
+    /// How many units of the old text it passes.
+    pub fn passed(&self) -> u32
+        ensures is { result ≡ passed self.now.kind self.now.units }
+        ensures within { result ≤ self.now.units }
+    {
+        match self.kind {
+            Kind::Insert => 0,
+            _ => self.units,
+        }
+    }
+
+    /// Whether the run and the next are written as one.
+    pub fn joins(&self, next: &Op) -> bool
+        ensures { result ≡ joins self.now next.now }
+    {
+        self.kind.is(next.kind) && self.attrs == next.attrs && (next.lines > 0 || !(self.lines > 0))
+    }
+
+    /// Whether the run is not written at the end.
+    pub fn is_bare(&self) -> bool
+        ensures { result ≡ is_bare self.now }
+    {
+        match self.kind {
+            Kind::Keep => self.attrs.is_none(),
+            _ => false,
+        }
+    }
+
+    /// The same operation again.
+    pub fn copy(&self, alloc: Global) -> Result<Op, NoMemory>
+        ensures { IfOk result (λ o. o ≡ self.now) }
+    {
+        Ok(Op {
+            kind: self.kind,
+            units: self.units,
+            lines: self.lines,
+            attrs: self.attrs.copy(alloc)?,
+        })
+    }
 }

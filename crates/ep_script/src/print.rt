@@ -8,7 +8,7 @@ ghost use Rattle.ep_script.specs.declared.shown.Shown.TheVariants.{Created, Logg
 
 use crate::shown::{Shown, State};
 use crate::texts::escape;
-use ep_cs::PlainChange;
+use ep_plain::PlainChange;
 use ep_units::{NoMemory, Session, Units};
 use std::alloc::Global;
 

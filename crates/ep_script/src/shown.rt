@@ -1,6 +1,6 @@
 //! What a line of output shows.
 
-use ep_cs::PlainChange;
+use ep_plain::PlainChange;
 use ep_units::{Session, Units};
 
 /// What a client has that the server doesn't know as committed.

@@ -3,7 +3,8 @@ use Rattle.std.proofs.Common.{◌≡◌, Bool, true, false, eqb, refl, sym, ap, 
 use Rattle.std.proofs.lemmas.Slice.Eq.{bytes_eq-Decides}
 use lib.Pointwise.{pointwise}
 use Rattle.ep_units.specs.Text.{Text, text_eq}
-use Rattle.ep_cs.proofs.Pairs.{itself, same_text}
+use Rattle.ep_attr.proofs.SameMap.{itself}
+use Rattle.ep_cs.proofs.Pairs.{same_text}
 
 same_truth : (a b : Bool) → (a ≡ true → b ≡ true) → (b ≡ true → a ≡ true) → a ≡ b
 same_truth true true f g = refl

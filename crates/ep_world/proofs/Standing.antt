@@ -1,7 +1,7 @@
 -- What a world in code stands for, opened and put together again.
 use Rattle.std.proofs.Common.{◌≡◌, Bool, true, false, cond, List, Option, Some, None, refl, sym, ap, ap₂, ◌∙◌, subst}
 use Rattle.ep_units.specs.Text.{Text, text_eq}
-use Rattle.ep_cs.proofs.Pairs.{itself}
+use Rattle.ep_attr.proofs.SameMap.{itself}
 use Rattle.ep_world.specs.Pad.{Rev}
 use Rattle.ep_world.specs.World.{Member, WorldState}
 use Rattle.ep_world.specs.Stands.{member_of, HasRevs, HasHeard, AreBoth}

@@ -10,7 +10,7 @@ ghost use Rattle.ep_world.specs.Stands.{Stands, Answers, state_at};
 
 use crate::bad::WorldBad;
 use crate::pad::{Pad, is_pad_text};
-use ep_cs::PlainChange;
+use ep_plain::PlainChange;
 use ep_script::{Local, Shown, State};
 use ep_units::{NoMemory, Units};
 use std::alloc::Global;

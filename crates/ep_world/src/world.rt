@@ -10,7 +10,7 @@ ghost use Rattle.ep_world.specs.StandsFor.{StandsFor, IsReached, AnswersStep};
 use crate::bad::WorldBad;
 use crate::client::{Client, take};
 use crate::pad::{MOST_UNITS, Pad};
-use ep_cs::PlainChange;
+use ep_plain::PlainChange;
 use ep_script::{Event, Local, Shown};
 use ep_units::{NoMemory, Session, Units};
 use std::alloc::Global;

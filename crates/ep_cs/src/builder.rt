@@ -1,0 +1,195 @@
+//! Changes written from left to right.
+
+ghost use Rattle.std.specs.Prelude.{◌≡◌, ◌+◌, ◌≤◌, ◌^◌, ◌<◌, length, OnOk, OnErr, IfOk};
+ghost use Rattle.ep_cs.specs.Steps.{passed};
+ghost use Rattle.ep_cs.specs.Draft.{blank, keeping, dropping, inserting, drafted, inserted_by, new_length};
+ghost use Rattle.ep_cs.specs.Fits.{AreDocuments};
+
+use crate::new_map::without_empty;
+use crate::normal::normal;
+use crate::op::{Kind, Op};
+use crate::packed::Change;
+use ep_attr::AttrMap;
+use ep_units::{NoMemory, Units};
+use std::alloc::Global;
+use std::marker::Model;
+
+/// A change that is being written, from left to right. Each call is one operation of changeset text.
+#[derive(Drop)]
+pub struct Builder {
+    alloc: Global,
+    old_len: u32,
+    new_len: u64,
+    ops: Vec<Op>,
+    bank: Units,
+}
+
+impl Model for Builder {
+    ghost use Rattle.ep_cs.specs.Draft.{Draft};
+    ghost use Rattle.ep_cs.specs.Codes.{coded_draft};
+
+    ghost Value = { Draft };
+
+    ghost coded = { coded_draft };
+
+    ghost use Rattle.ep_cs.specs.Packed.{told, IsTold};
+
+    ghost view = { told };
+
+    ghost invariant = { IsTold };
+}
+
+impl Builder {
+    /// Nothing written, of a change of so many UTF-16 units.
+    pub fn new(alloc: Global, old_len: u32) -> Builder
+        ensures { result ≡ blank old_len }
+    {
+        Builder {
+            alloc,
+            old_len,
+            new_len: u64::from(old_len),
+            ops: Vec::new(alloc),
+            bank: Units::new(alloc),
+        }
+    }
+
+    /// Keeps so many units with a map. Where they hold newlines, the last is their last unit.
+    pub fn keep(&mut self, units: u32, lines: u32, attrs: &AttrMap) -> Result<(), NoMemory>
+        requires inside { passed self.old.steps + units ≤ self.old.old }
+        requires lined { lines ≤ units }
+        ensures ok { OnOk result (self.new ≡ keeping self.old units lines attrs.now) }
+        ensures err { OnErr result (self.new ≡ self.old) }
+    {
+        let attrs = attrs.copy(self.alloc)?;
+        self.keep_owned(units, lines, attrs)
+    }
+
+    /// The same with a map that is given away.
+    pub fn keep_owned(&mut self, units: u32, lines: u32, attrs: AttrMap) -> Result<(), NoMemory>
+        requires inside { passed self.old.steps + units ≤ self.old.old }
+        requires lined { lines ≤ units }
+        ensures ok { OnOk result (self.new ≡ keeping self.old units lines attrs) }
+        ensures err { OnErr result (self.new ≡ self.old) }
+    {
+        if units > 0 {
+            self.ops.push(Op {
+                kind: Kind::Keep,
+                units,
+                lines,
+                attrs,
+            })?;
+        }
+        Ok(())
+    }
+
+    /// Drops so many units. Where they hold newlines, the last is their last unit.
+    pub fn drop_units(&mut self, units: u32, lines: u32) -> Result<(), NoMemory>
+        requires inside { passed self.old.steps + units ≤ self.old.old }
+        requires lined { lines ≤ units }
+        ensures ok { OnOk result (self.new ≡ dropping self.old units lines) }
+        ensures err { OnErr result (self.new ≡ self.old) }
+    {
+        if units > 0 {
+            self.ops.push(Op {
+                kind: Kind::Drop,
+                units,
+                lines,
+                attrs: AttrMap::none(self.alloc),
+            })?;
+            self.new_len -= units as u64;
+        }
+        Ok(())
+    }
+
+    /// Inserts a text with a map, of which empty values fall away.
+    pub fn insert(&mut self, text: &[u16], attrs: &AttrMap) -> Result<(), NoMemory>
+        requires { inserted_by self.old.steps + length text.now < 2 ^ 32 }
+        ensures ok { OnOk result (self.new ≡ inserting self.old text.now attrs.now) }
+        ensures err { OnErr result (self.new ≡ self.old) }
+    {
+        let attrs = attrs.copy(self.alloc)?;
+        self.insert_owned(text, attrs)
+    }
+
+    /// The same with a map that is given away.
+    pub fn insert_owned(&mut self, text: &[u16], attrs: AttrMap) -> Result<(), NoMemory>
+        requires { inserted_by self.old.steps + length text.now < 2 ^ 32 }
+        ensures ok { OnOk result (self.new ≡ inserting self.old text.now attrs) }
+        ensures err { OnErr result (self.new ≡ self.old) }
+    {
+        if text.is_empty() {
+            return Ok(());
+        }
+        let attrs = without_empty(self.alloc, attrs)?;
+        let units = text.len() as u32;
+        self.ops.reserve(1)?;
+        self.bank.push_all(text)?;
+        self.ops.push_reserved(Op {
+            kind: Kind::Insert,
+            units,
+            lines: 0,
+            attrs,
+        });
+        self.new_len += units as u64;
+        Ok(())
+    }
+
+    /// The change that was written. Its new length is below 2^32, though it may have been longer in between. Each
+    /// piece that it inserts is a document: it is well-formed, and the halves of a pair have equal maps.
+    pub fn finish(self) -> Result<Change, NoMemory>
+        requires short { new_length self < 2 ^ 32 }
+        requires pieces { AreDocuments (drafted self).edit.places (drafted self).edit.last }
+        ensures { IfOk result (λ c. c ≡ drafted self) }
+    {
+        let Builder {
+            alloc,
+            old_len,
+            new_len,
+            ops,
+            bank,
+        } = self;
+        let ops = normal(alloc, old_len, ops, bank.as_slice())?;
+        Ok(Change {
+            old_len,
+            new_len: new_len as u32,
+            ops,
+            bank,
+        })
+    }
+}
+
+#[cfg(test)]
+mod tests {
+    use super::*;
+    use std::test::Fail;
+
+    fn replaced(alloc: Global) -> Result<Change, NoMemory> {
+        let bare = AttrMap::none(alloc);
+        let mut builder = Builder::new(alloc, 3);
+        builder.keep(1, 0, &bare)?;
+        builder.insert(&[120], &bare)?;
+        builder.drop_units(1, 0)?;
+        builder.keep(1, 1, &bare)?;
+        builder.finish()
+    }
+
+    #[test]
+    fn drops_before_inserts(rt: HostRuntime) -> Result<(), Fail> {
+        let change = replaced(rt.alloc())?.copy(rt.alloc())?;
+        assert_eq!(rt; change.old_len(), 3);
+        assert_eq!(rt; change.new_len(), 3);
+        assert_eq!(rt; change.is_identity(), false);
+        assert_eq!(rt; change.bank().as_slice(), [120].as_slice());
+        let kinds = [Kind::Keep, Kind::Drop, Kind::Insert];
+        assert_eq!(rt; change.ops().len(), kinds.len());
+        for (op, kind) in change.ops().iter().zip(kinds) {
+            assert_eq!(rt; op.kind, kind);
+            assert_eq!(rt; op.units, 1);
+            assert_eq!(rt; op.lines, 0);
+        }
+        let identity = Change::identity(rt.alloc(), 3);
+        assert_eq!(rt; identity.is_identity(), true);
+        assert_eq!(rt; identity.old_len(), 3);
+        Ok(())
+    }
+}
