@@ -1,0 +1,8 @@
+pub mod Numbers
+pub mod Syntax
+pub mod Spelling
+pub mod Reading
+pub mod Answer
+pub mod Before
+pub mod Grammar
+pub mod Built

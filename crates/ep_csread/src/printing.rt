@@ -1,0 +1,211 @@
+//! The normal spelling of a change, with the numbers of a pool.
+
+ghost use Rattle.std.specs.Prelude.{◌≡◌, ◌++◌, ◌∷◌, true, IfOk, OnOk, map};
+ghost use Rattle.std.specs.List.{flat_map, list_all};
+ghost use Rattle.ep_attr.specs.Attrs.{pairs_of};
+ghost use Rattle.ep_pool.specs.Pool.{has, number_of, pair_of};
+ghost use Rattle.ep_units.specs.Base36.{write36};
+ghost use Rattle.ep_cs.specs.Spelling.{star_text, lines_text, kind_text, op_text, difference_text};
+ghost use Rattle.ep_csread.specs.Spelling.{numbers_in, has_pairs, ops_text, printed};
+
+use ep_attr::{Attr, AttrMap};
+use ep_cs::{Change, Kind, Op};
+use ep_pool::Pool;
+use ep_units::{NoMemory, Units, write36};
+use std::alloc::Global;
+
+fn kind_unit(kind: Kind) -> u16
+    ensures { result ≡ kind_text kind }
+{
+    match kind {
+        Kind::Keep => 61,
+        Kind::Drop => 45,
+        Kind::Insert => 43,
+    }
+}
+
+fn write_stars(stars: &[u32], out: &mut Units) -> Result<(), NoMemory>
+    ensures { OnOk result (out.new ≡ out.old ++ flat_map star_text stars.now) }
+{
+    for star in stars {
+        out.push(42)?;
+        write36(u64::from(*star), out)?;
+    }
+    Ok(())
+}
+
+fn write_lines(lines: u32, out: &mut Units) -> Result<(), NoMemory>
+    ensures { OnOk result (out.new ≡ out.old ++ lines_text lines) }
+{
+    if lines > 0 {
+        out.push(124)?;
+        write36(u64::from(lines), out)?;
+    }
+    Ok(())
+}
+
+/// Appends an operation, whose attributes have these numbers.
+fn write_op(stars: &[u32], op: &Op, out: &mut Units) -> Result<(), NoMemory>
+    ensures { OnOk result (out.new ≡ out.old ++ op_text stars.now op.now) }
+{
+    write_stars(stars, out)?;
+    write_lines(op.lines, out)?;
+    out.push(kind_unit(op.kind))?;
+    write36(u64::from(op.units), out)
+}
+
+/// Appends how much longer or shorter the new text is.
+fn write_difference(old: u32, new: u32, out: &mut Units) -> Result<(), NoMemory>
+    ensures { OnOk result (out.new ≡ out.old ++ difference_text old new) }
+{
+    if old <= new {
+        out.push(62)?;
+        write36(u64::from(new - old), out)
+    } else {
+        out.push(60)?;
+        write36(u64::from(old - new), out)
+    }
+}
+
+/// The number of an attribute that the pool has.
+#[tactic(auto, using(crate::proofs::Numbering::found))]
+fn number(attr: &Attr, pool: &Pool) -> u32
+    requires { has pool.now.pairs (pair_of attr.now) ≡ true }
+    ensures { result ≡ number_of pool.now.pairs (pair_of attr.now) }
+{
+    pool.find(attr).unwrap()
+}
+
+#[tactic(auto, using(crate::proofs::Numbering::attr_there))]
+fn push_numbers(attrs: &[Attr], pool: &Pool, numbers: &mut Vec<u32>) -> Result<(), NoMemory>
+    requires { list_all (has pool.now.pairs) (pairs_of attrs.now) ≡ true }
+    ensures { OnOk result (numbers.new.items ≡ numbers.old.items ++ map (number_of pool.now.pairs) (pairs_of attrs.now)) }
+{
+    for attr in attrs {
+        numbers.push(number(attr, pool))?;
+    }
+    Ok(())
+}
+
+/// Puts the numbers of the map's pairs in the place of what `numbers` held, from the lowest to the highest.
+fn number_all(attrs: &AttrMap, pool: &Pool, numbers: &mut Vec<u32>) -> Result<(), NoMemory>
+    requires { list_all (has pool.now.pairs) attrs.now.pairs ≡ true }
+    ensures { OnOk result (numbers.new.items ≡ numbers_in pool.now.pairs attrs.now) }
+{
+    numbers.clear();
+    push_numbers(attrs.pairs(), pool, numbers)?;
+    numbers.sort_unstable();
+    Ok(())
+}
+
+/// Appends the operations.
+pub(crate) fn write_ops(
+    alloc: Global,
+    ops: &[Op],
+    pool: &Pool,
+    out: &mut Units,
+) -> Result<(), NoMemory>
+    requires { has_pairs pool.now.pairs ops.now ≡ true }
+    ensures { OnOk result (out.new ≡ out.old ++ ops_text pool.now.pairs ops.now) }
+{
+    let mut numbers = Vec::new(alloc);
+    for op in ops {
+        number_all(&op.attrs, pool, &mut numbers)?;
+        write_op(&numbers, op, out)?;
+    }
+    Ok(())
+}
+
+/// Appends `Z:` and the lengths.
+fn write_lengths(old: u32, new: u32, out: &mut Units) -> Result<(), NoMemory>
+    ensures { OnOk result (out.new ≡ out.old ++ 90 ∷ 58 ∷ (write36 old ++ difference_text old new)) }
+{
+    out.push(90)?;
+    out.push(58)?;
+    write36(u64::from(old), out)?;
+    write_difference(old, new, out)
+}
+
+#[tactic(auto, using(crate::proofs::Numbering::found_there))]
+fn has(attr: &Attr, pool: &Pool) -> bool
+    ensures { result ≡ has pool.now.pairs (pair_of attr.now) }
+{
+    pool.find(attr).is_some()
+}
+
+#[tactic(auto, using(crate::proofs::Numbering::attr_missing, std::proofs::lemmas::Grind::common_steps))]
+fn has_all(attrs: &[Attr], pool: &Pool) -> bool
+    ensures { result ≡ list_all (has pool.now.pairs) (pairs_of attrs.now) }
+{
+    for attr in attrs {
+        if !has(attr, pool) {
+            return false;
+        }
+    }
+    true
+}
+
+/// Whether the pool has every pair of the change.
+pub fn has_pairs(change: &Change, pool: &Pool) -> bool
+    ensures { result ≡ has_pairs pool.now.pairs change.now.runs }
+{
+    change
+        .ops()
+        .iter()
+        .all(|op| has_all(op.attrs.pairs(), pool))
+}
+
+/// The normal spelling of a change with a pool that has its pairs.
+pub fn print(alloc: Global, change: &Change, pool: &Pool) -> Result<Units, NoMemory>
+    requires { has_pairs pool.now.pairs change.now.runs ≡ true }
+    ensures { IfOk result (λ text. text ≡ printed pool.now.pairs change.now) }
+{
+    let mut out = Units::new(alloc);
+    write_lengths(change.old_len(), change.new_len(), &mut out)?;
+    write_ops(alloc, change.ops(), pool, &mut out)?;
+    out.push(36)?;
+    out.push_all(change.bank().as_slice())?;
+    Ok(out)
+}
+
+#[cfg(test)]
+mod tests {
+    use super::*;
+    use crate::reader::read;
+    use std::test::Fail;
+
+    /// The pool of six pairs with these keys.
+    fn pool(alloc: Global) -> Result<Pool, NoMemory> {
+        let mut pool = Pool::new(alloc);
+        for key in ["u", "z", "b", "y", "e", "f"] {
+            let key = Units::from_str(alloc, key)?;
+            let value = Units::from_str(alloc, "true")?;
+            pool.reserve(1)?;
+            if pool.len() < 6 {
+                pool.put(Attr { key, value });
+            }
+        }
+        Ok(pool)
+    }
+
+    #[test]
+    fn spelled(rt: HostRuntime) -> Result<(), Fail> {
+        let alloc = rt.alloc();
+        let pool = pool(alloc)?;
+        for (text, normal) in [
+            ("Z:5g>1|5=2p=v*4*5+1$x", "Z:5g>1|5=2p=v*4*5+1$x"),
+            ("Z:6>0=1+1-1$a", "Z:6>0=1-1+1$a"),
+            ("Z:6<2=1|1-2-1+1$x", "Z:6<2=1|1-2-1+1$x"),
+            ("Z:03>02*2+01=1*5*0+1$xy", "Z:3>2*2+1=1*0*5+1$xy"),
+            ("Z:5>0*0|1=3*0|1=1$", "Z:5>0*0|2=4$"),
+            ("Z:3<0=3$", "Z:3>0$"),
+        ] {
+            let text = Units::from_str(alloc, text)?;
+            let change = read(alloc, &text, &pool)?;
+            assert!(rt; has_pairs(&change, &pool));
+            let text = print(alloc, &change, &pool)?;
+            assert_eq!(rt; text.as_slice(), Units::from_str(alloc, normal)?.as_slice());
+        }
+        Ok(())
+    }
+}

@@ -1,0 +1,127 @@
+//! Changes in wire form: each with a pool of its own, of just the pairs that it names.
+
+ghost use Rattle.std.specs.Prelude.{◌≡◌, fold, IfOk, OnOk};
+ghost use Rattle.ep_attr.specs.Attrs.{pairs_of};
+ghost use Rattle.ep_pool.specs.Pool.{pair_of, put};
+ghost use Rattle.ep_cs.specs.Spelling.{old_len};
+ghost use Rattle.ep_csread.specs.Spelling.{ops_text, pairs_named, printed};
+
+use crate::printing::{print, write_ops};
+use ep_attr::Attr;
+use ep_cs::{Change, Op};
+use ep_pool::Pool;
+use ep_units::{NoMemory, Units};
+use std::alloc::Global;
+
+/// A text of changeset operations, and the pool by which it numbers attributes.
+#[derive(Drop)]
+pub struct Wire {
+    pub text: Units,
+    pub pool: Pool,
+}
+
+/// Puts the attribute where it isn't there yet. A pool that can number no more answers as for want of memory.
+#[tactic(auto, using(crate::proofs::WirePool::put_found))]
+fn put(alloc: Global, attr: &Attr, pool: &mut Pool) -> Result<(), NoMemory>
+    ensures { OnOk result (pool.new.pairs ≡ put pool.old.pairs (pair_of attr.now)) }
+{
+    if pool.find(attr).is_none() {
+        if pool.len() == u32::MAX {
+            return Err(NoMemory);
+        }
+        let key = attr.key.copy(alloc)?;
+        let value = attr.value.copy(alloc)?;
+        pool.reserve(1)?;
+        pool.put(Attr { key, value });
+    }
+    Ok(())
+}
+
+fn put_all(alloc: Global, attrs: &[Attr], pool: &mut Pool) -> Result<(), NoMemory>
+    ensures { OnOk result (pool.new.pairs ≡ fold put pool.old.pairs (pairs_of attrs.now)) }
+{
+    for attr in attrs {
+        put(alloc, attr, pool)?;
+    }
+    Ok(())
+}
+
+/// The pool of just the pairs that operations name.
+fn pool_of(alloc: Global, ops: &[Op]) -> Result<Pool, NoMemory>
+    ensures { IfOk result (λ pool. pool.pairs ≡ pairs_named ops.now) }
+{
+    let mut pool = Pool::new(alloc);
+    for op in ops {
+        put_all(alloc, op.attrs.pairs(), &mut pool)?;
+    }
+    Ok(pool)
+}
+
+/// The normal spelling of a change with the pool of its own pairs.
+#[tactic(auto, using(crate::proofs::WirePool::named_there, crate::proofs::WirePool::printed_named))]
+pub fn for_wire(alloc: Global, change: &Change) -> Result<Wire, NoMemory>
+    ensures text { IfOk result (λ wire. wire.text ≡ printed (pairs_named change.now.runs) change.now) }
+    ensures pool { IfOk result (λ wire. wire.pool.pairs ≡ pairs_named change.now.runs) }
+{
+    let pool = pool_of(alloc, change.ops())?;
+    let text = print(alloc, change, &pool)?;
+    Ok(Wire { text, pool })
+}
+
+/// The operations alone of a change that makes a whole text, which are `+` operations, with the pool of
+/// their own pairs. The text itself is the change's bank.
+#[tactic(auto, using(crate::proofs::WirePool::named_there))]
+pub fn print_attribs(alloc: Global, change: &Change) -> Result<Wire, NoMemory>
+    requires { old_len change.now.edit ≡ 0 }
+    ensures text { IfOk result (λ wire. wire.text ≡ ops_text (pairs_named change.now.runs) change.now.runs) }
+    ensures pool { IfOk result (λ wire. wire.pool.pairs ≡ pairs_named change.now.runs) }
+{
+    let pool = pool_of(alloc, change.ops())?;
+    let mut text = Units::new(alloc);
+    write_ops(alloc, change.ops(), &pool, &mut text)?;
+    Ok(Wire { text, pool })
+}
+
+#[cfg(test)]
+mod tests {
+    use super::*;
+    use crate::reader::{read, read_attribs};
+    use std::test::Fail;
+
+    fn attr(alloc: Global, key: &str, value: &str) -> Result<Attr, NoMemory> {
+        Ok(Attr {
+            key: Units::from_str(alloc, key)?,
+            value: Units::from_str(alloc, value)?,
+        })
+    }
+
+    #[test]
+    fn own_pool(rt: HostRuntime) -> Result<(), Fail> {
+        let alloc = rt.alloc();
+        let mut pool = Pool::new(alloc);
+        put(alloc, &attr(alloc, "a", "b")?, &mut pool)?;
+        put(alloc, &attr(alloc, "bold", "true")?, &mut pool)?;
+        let text = Units::from_str(alloc, "Z:3>2*1+1=1*0*1+1$xy")?;
+        let wire = for_wire(alloc, &read(alloc, &text, &pool)?)?;
+        let text = Units::from_str(alloc, "Z:3>2*0+1=1*0*1+1$xy")?;
+        assert_eq!(rt; wire.text.as_slice(), text.as_slice());
+        assert_eq!(rt; wire.pool.len(), 2);
+        assert_eq!(rt; wire.pool.find(&attr(alloc, "bold", "true")?), Some(0));
+        Ok(())
+    }
+
+    #[test]
+    fn alone(rt: HostRuntime) -> Result<(), Fail> {
+        let alloc = rt.alloc();
+        let mut pool = Pool::new(alloc);
+        put(alloc, &attr(alloc, "bold", "true")?, &mut pool)?;
+        let text = Units::from_str(alloc, "ab")?;
+        let attribs = Units::from_str(alloc, "*0+1+1")?;
+        let change = read_attribs(alloc, &text, &attribs, &pool)?;
+        assert_eq!(rt; change.old_len(), 0);
+        let wire = print_attribs(alloc, &change)?;
+        assert_eq!(rt; wire.text.as_slice(), attribs.as_slice());
+        assert_eq!(rt; wire.pool.len(), 1);
+        Ok(())
+    }
+}
