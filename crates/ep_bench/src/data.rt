@@ -1,0 +1,91 @@
+//! Generated documents and small edits of them.
+
+use crate::draws::Draws;
+use ep_units::{NoMemory, Units, write36};
+use std::alloc::Global;
+
+const NEWLINE: u16 = 10;
+
+/// A lower-case letter.
+fn letter(draws: &mut Draws) -> u16 {
+    u16::from(b'a') + draws.pick(26) as u16
+}
+
+/// A text of so many units, of which one in 60 is a newline.
+pub fn document(alloc: Global, units: usize, draws: &mut Draws) -> Result<Units, NoMemory> {
+    let mut text = Units::new(alloc);
+    for _ in 0..units {
+        let unit = if draws.pick(60) == 0 {
+            NEWLINE
+        } else {
+            letter(draws)
+        };
+        text.push(unit)?;
+    }
+    Ok(text)
+}
+
+/// Where the last line of a text begins.
+fn last_line(text: &[u16]) -> usize {
+    match text.iter().rposition(|unit| *unit == NEWLINE) {
+        Some(at) => at.saturating_add(1),
+        None => 0,
+    }
+}
+
+/// An operation of changeset text on a stretch of a document, as its whole lines and its rest.
+fn write_stretch(sign: u8, stretch: &[u16], out: &mut Units) -> Result<(), NoMemory> {
+    let whole = last_line(stretch).min(stretch.len());
+    let lines = stretch.iter().filter(|unit| **unit == NEWLINE).count();
+    if whole > 0 {
+        out.push(u16::from(b'|'))?;
+        write36(lines as u64, out)?;
+        out.push(u16::from(sign))?;
+        write36(whole as u64, out)?;
+    }
+    if whole < stretch.len() {
+        out.push(u16::from(sign))?;
+        write36((stretch.len() - whole) as u64, out)?;
+    }
+    Ok(())
+}
+
+fn write_ascii(text: &str, out: &mut Units) -> Result<(), NoMemory> {
+    for byte in text.as_bytes() {
+        out.push(u16::from(*byte))?;
+    }
+    Ok(())
+}
+
+/// The changeset text of a small edit of a document: at a random place one to three equal letters are inserted with
+/// the first attribute of the pool, or one to three units are dropped.
+pub fn edit(alloc: Global, doc: &[u16], draws: &mut Draws) -> Result<Units, NoMemory> {
+    let mut out = Units::new(alloc);
+    let at = draws
+        .pick(doc.len().saturating_sub(10).max(1))
+        .min(doc.len());
+    let count = 1 + draws.pick(3);
+    write_ascii("Z:", &mut out)?;
+    write36(doc.len() as u64, &mut out)?;
+    if draws.pick(4) > 0 {
+        write_ascii(">", &mut out)?;
+        write36(count as u64, &mut out)?;
+        write_stretch(b'=', &doc[..at], &mut out)?;
+        write_ascii("*0+", &mut out)?;
+        write36(count as u64, &mut out)?;
+        write_ascii("$", &mut out)?;
+        let unit = letter(draws);
+        for _ in 0..count {
+            out.push(unit)?;
+        }
+    } else {
+        let gone = &doc[at..];
+        let gone = &gone[..count.min(gone.len())];
+        write_ascii("<", &mut out)?;
+        write36(gone.len() as u64, &mut out)?;
+        write_stretch(b'=', &doc[..at], &mut out)?;
+        write_stretch(b'-', gone, &mut out)?;
+        write_ascii("$", &mut out)?;
+    }
+    Ok(out)
+}

@@ -1,0 +1,29 @@
+//! Runs one operation many times on generated data, to be measured from outside, and prints a checksum.
+#![tactic(auto)]
+
+mod data;
+mod draws;
+mod work;
+
+use anyhow::{Context, Result, anyhow};
+use std::env;
+use work::Work;
+
+const USAGE: &str = "usage: ep_bench read|print|pool UNITS COUNT";
+
+fn checksum(rt: &HostRuntime) -> Result<u64> {
+    let mut words = env::args(rt)?.skip(1);
+    let work = words
+        .next()
+        .and_then(|word| Work::named(&word))
+        .context(USAGE)?;
+    let units = words.next().context(USAGE)?.parse::<u32>().context(USAGE)?;
+    let count = words.next().context(USAGE)?.parse::<u32>().context(USAGE)?;
+    work.run(rt.alloc(), units, count)
+}
+
+fn main(rt: HostRuntime) -> Result<()> {
+    let sum = checksum(&rt)?;
+    println!(rt; "{sum}")?;
+    Ok(())
+}
