@@ -1,1 +1,7 @@
+pub mod Crash
+pub mod Disk
+pub mod Images
+pub mod Moments
 pub mod Outside
+pub mod Drawn
+pub mod Kept

@@ -6,10 +6,30 @@
 //! bytes mean.
 #![tactic(auto)]
 
+mod clock;
+mod crash;
+mod disk;
+mod draws;
+mod image;
+mod keeper;
+mod limits;
+mod machine;
 mod read;
+mod refused;
 mod sink;
 mod source;
+mod text;
 
+pub use clock::Clock;
+pub use crash::Crash;
+pub use disk::Disk;
+pub use draws::Draws;
+pub use image::Image;
+pub use keeper::{KeepBad, Keeper, Pair, Pairs, Put};
+pub use limits::Limits;
+pub use machine::Machine;
 pub use read::{ReadBad, read_all};
+pub use refused::Refused;
 pub use sink::Sink;
 pub use source::{Failed, Got, Source};
+pub use text::Text;

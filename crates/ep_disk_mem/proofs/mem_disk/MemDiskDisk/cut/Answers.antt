@@ -1,0 +1,18 @@
+use Rattle.std.proofs.Common.{◌+◌, ◌-◌, sym, subst, arith}
+use Rattle.ep_outside.specs.Disk.{Contents, MayLeave}
+use Rattle.ep_outside.proofs.Images.{cut_image}
+use Rattle.ep_disk_mem.specs.Held.{contents_of}
+use Rattle.ep_disk_mem.proofs.Kept.{moves_to, room_at}
+use Rattle.ep_disk_mem.proofs.mem_disk.MemDiskDisk.cut.Goals as goal
+
+pub invariant_of-self-2 : goal.invariant_of-self-2
+invariant_of-self-2 c =
+    record {
+      roomy = c.cut.ensures.room (c.args.self.now.room_calls - 1) (c.args.self.now.room_bytes) (room_at c.args.self.now.held c.args.self.now.room_calls c.args.self.now.room_bytes (c.args.self.now.room_calls - 1 + 1) (c.args.self.now.room_bytes) (omega arith) (omega arith) c.args.self.now.roomy);
+      times = λ no. omega (arith, c.args.self.now.times no);
+      in_sync = λ yes_fresh. absurd (omega (arith, (c.args.self.now.in_sync yes_fresh).1));
+      sound = subst (λ (k : Contents). MayLeave k k.seen) (sym c.cut.ensures.contents) (cut_image (contents_of c.args.self.now.held) c.args.to c.requires.inside c.args.self.now.sound);
+    }
+
+pub returns-clause-time : goal.returns-clause-time
+returns-clause-time c = moves_to c.args.self.now.past.items c.push_reserved.new.self.items c.of-was.result c.args.self.now.held c.cut.new.self c.of-was.ensures c.push_reserved.ensures.items

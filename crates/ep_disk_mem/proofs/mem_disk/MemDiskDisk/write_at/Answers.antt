@@ -1,0 +1,18 @@
+use Rattle.std.proofs.Common.{◌+◌, ◌-◌, sym, subst, arith, length}
+use Rattle.ep_outside.specs.Disk.{Contents, MayLeave}
+use Rattle.ep_outside.proofs.Images.{written_image}
+use Rattle.ep_disk_mem.specs.Held.{contents_of}
+use Rattle.ep_disk_mem.proofs.Kept.{moves_to, room_at}
+use Rattle.ep_disk_mem.proofs.mem_disk.MemDiskDisk.write_at.Goals as goal
+
+pub invariant_of-self-2 : goal.invariant_of-self-2
+invariant_of-self-2 c =
+    record {
+      roomy = c.write_at.ensures.room (c.args.self.now.room_calls - 1) (c.args.self.now.room_bytes - length c.args.bytes.now) (room_at c.args.self.now.held c.args.self.now.room_calls c.args.self.now.room_bytes (c.args.self.now.room_calls - 1 + 1) (c.args.self.now.room_bytes - length c.args.bytes.now + length c.args.bytes.now) (omega arith) (omega arith) c.args.self.now.roomy);
+      times = λ no. omega (arith, c.args.self.now.times no);
+      in_sync = λ yes_fresh. absurd (omega (arith, (c.args.self.now.in_sync yes_fresh).1));
+      sound = subst (λ (k : Contents). MayLeave k k.seen) (sym c.write_at.ensures.contents) (written_image (contents_of c.args.self.now.held) c.args.at c.args.bytes.now c.requires.inside c.args.self.now.sound);
+    }
+
+pub returns-clause-time : goal.returns-clause-time
+returns-clause-time c = moves_to c.args.self.now.past.items c.push_reserved.new.self.items c.of-was.result c.args.self.now.held c.write_at.new.self c.of-was.ensures c.push_reserved.ensures.items

@@ -1,0 +1,12 @@
+-- Whether a disk in memory never fails.
+use Rattle.std.specs.Prelude.{Bool, ◌&&◌, ◌==◌, is_none, ◌≡◌, true}
+use Rattle.std.proofs.lemmas.Bool.{and_parts, eqb-true}
+use Rattle.ep_disk_mem.specs.Faults.{fails_never}
+use Rattle.ep_disk_mem.specs.declared.disk_calls.DiskCalls.{DiskCalls}
+
+-- no call is to fail, no stop was asked for, and none has failed
+abbrev pub is_sure : DiskCalls → Bool
+is_sure c = fails_never c.faults && (is_none c.left && (c.faults.failures == 0))
+
+pub never : (c : DiskCalls) → is_sure c ≡ true → c.faults.failures ≡ 0
+never c sure = eqb-true c.faults.failures 0 (and_parts (is_none c.left) (c.faults.failures == 0) (and_parts (fails_never c.faults) (is_none c.left && (c.faults.failures == 0)) sure).1).1

@@ -1,0 +1,3 @@
+pub mod DiskCalls
+pub mod Faults
+pub mod Held

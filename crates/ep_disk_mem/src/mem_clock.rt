@@ -1,0 +1,53 @@
+//! A clock that shows moments of a list.
+
+ghost use Rattle.std.specs.Prelude.{◌≡◌, ◌<◌, length};
+
+use ep_outside::Clock;
+use std::sync::atomic::{AtomicU64, Ordering};
+
+/// A clock that shows the moments of a list one after the other, and then the last one.
+#[derive(Drop)]
+pub struct MemClock {
+    moments: Vec<u64>,
+    shown: AtomicU64,
+    ghost some: { 0 < length moments.items },
+}
+
+impl MemClock {
+    pub fn new(moments: Vec<u64>) -> MemClock
+        requires { 0 < length moments.items }
+        ensures { result.moments.items ≡ moments.items }
+    {
+        MemClock {
+            moments,
+            shown: AtomicU64::new(0),
+        }
+    }
+}
+
+impl Clock for MemClock {
+    ghost use Rattle.std.specs.Prelude.{Contains};
+
+    ghost may_show = { λ c moment. Contains c.moments.items moment };
+
+    fn now_ms(&self) -> u64 {
+        let last = self.moments.len() - 1;
+        let at = self.shown.fetch_add(1, Ordering::SeqCst);
+        self.moments[(at as usize).min(last)]
+    }
+}
+
+#[cfg(test)]
+mod tests {
+    use super::*;
+    use std::test::Fail;
+
+    #[test]
+    fn shows_its_moments(rt: HostRuntime) -> Result<(), Fail> {
+        let clock = MemClock::new(vec![in rt.alloc(); 5, 9]?);
+        for moment in [5, 9, 9] {
+            assert_eq!(rt; clock.now_ms(), moment);
+        }
+        Ok(())
+    }
+}

@@ -1,0 +1,62 @@
+use Rattle.std.proofs.Common.{◌∙◌, inr, subst, sym, Option}
+use Rattle.ep_outside.specs.Disk.{Contents, IsImage}
+use Rattle.ep_outside.specs.Moments.{LeavesOnly}
+use Rattle.ep_outside.proofs.Moments.{started, goes_on, joined}
+use Rattle.ep_journal.proofs.Repairing.{opens_held}
+use Rattle.ep_journal.proofs.opening.open_disk.Goals as goal
+
+pub returns-in-Ok-Some-clause-crash : goal.returns-in-Ok-Some-clause-crash
+returns-in-Ok-Some-clause-crash g c k told =
+    let disk = g.D.Disk in
+    let old = c.args.disk.now in
+    let P = IsImage (disk.told old) in
+    let same = c.reserve.ensures.same in
+    let reserved = goes_on disk.moment disk.since old old c.reserve.new.self P _ (started disk.moment disk.since old P (λ i left. g.met.D.Disk.only_now old i left)) c.reserve.ensures.time (λ i left. subst (λ (o : Option Contents). IsImage o i) same left) in
+    let synced = joined disk.moment disk.since old c.reserve.new.self c.settle.new.disk P reserved (subst (λ (o : Option Contents). LeavesOnly disk.moment disk.since c.reserve.new.self c.settle.new.disk (IsImage o)) same c.settle.ensures.crash) in
+    (c.settle.new.disk, synced, c.find_journal.ensures.crash k.seen (c.in-Ok.ensures.done k (same ∙ told)))
+
+pub returns-in-Ok-None-clause-crash : goal.returns-in-Ok-None-clause-crash
+returns-in-Ok-None-clause-crash g c k told =
+    let disk = g.D.Disk in
+    let old = c.args.disk.now in
+    let P = IsImage (disk.told old) in
+    let same = c.reserve.ensures.same in
+    let reserved = goes_on disk.moment disk.since old old c.reserve.new.self P _ (started disk.moment disk.since old P (λ i left. g.met.D.Disk.only_now old i left)) c.reserve.ensures.time (λ i left. subst (λ (o : Option Contents). IsImage o i) same left) in
+    let synced = joined disk.moment disk.since old c.reserve.new.self c.settle.new.disk P reserved (subst (λ (o : Option Contents). LeavesOnly disk.moment disk.since c.reserve.new.self c.settle.new.disk (IsImage o)) same c.settle.ensures.crash) in
+    inr (c.settle.new.disk, synced, c.find_journal.ensures.crash k.seen (c.in-Ok.ensures.done k (same ∙ told)))
+
+pub returns-in-Err-Failed-clause-crash : goal.returns-in-Err-Failed-clause-crash
+returns-in-Err-Failed-clause-crash g c k told =
+    let disk = g.D.Disk in
+    let old = c.args.disk.now in
+    let P = IsImage (disk.told old) in
+    let same = c.reserve.ensures.same in
+    let reserved = goes_on disk.moment disk.since old old c.reserve.new.self P _ (started disk.moment disk.since old P (λ i left. g.met.D.Disk.only_now old i left)) c.reserve.ensures.time (λ i left. subst (λ (o : Option Contents). IsImage o i) same left) in
+    let synced = joined disk.moment disk.since old c.reserve.new.self c.settle.new.disk P reserved (subst (λ (o : Option Contents). LeavesOnly disk.moment disk.since c.reserve.new.self c.settle.new.disk (IsImage o)) same c.settle.ensures.crash) in
+    inr (c.settle.new.disk, synced, c.find_journal.ensures.crash k.seen (c.in-Ok.ensures.done k (same ∙ told)))
+
+pub returns-in-Err-NoMemory-clause-crash : goal.returns-in-Err-NoMemory-clause-crash
+returns-in-Err-NoMemory-clause-crash g c k told =
+    let disk = g.D.Disk in
+    let old = c.args.disk.now in
+    let P = IsImage (disk.told old) in
+    let same = c.reserve.ensures.same in
+    let reserved = goes_on disk.moment disk.since old old c.reserve.new.self P _ (started disk.moment disk.since old P (λ i left. g.met.D.Disk.only_now old i left)) c.reserve.ensures.time (λ i left. subst (λ (o : Option Contents). IsImage o i) same left) in
+    let synced = joined disk.moment disk.since old c.reserve.new.self c.settle.new.disk P reserved (subst (λ (o : Option Contents). LeavesOnly disk.moment disk.since c.reserve.new.self c.settle.new.disk (IsImage o)) same c.settle.ensures.crash) in
+    inr (c.settle.new.disk, synced, c.find_journal.ensures.crash k.seen (c.in-Ok.ensures.done k (same ∙ told)))
+
+pub returns-in-Ok-Some-clause-held : goal.returns-in-Ok-Some-clause-held
+returns-in-Ok-Some-clause-held g c =
+    let same = c.reserve.ensures.same in
+    opens_held (g.D.Disk.told c.args.disk.now) _ _ _ (λ none. c.find_journal.ensures.tells (c.settle.ensures.tells (same ∙ none)))
+    (λ k told. let synced = c.in-Ok.ensures.done k (same ∙ told) in
+    let some = c.in-Ok-Some.field-0-is in
+    let done = rw some at (c.in-Ok-Some.ensures.done k.seen synced) in
+    let gates = rw some at (c.in-Ok-Some.ensures.gates k.seen synced) in
+    let native = rw some at (c.in-Ok-Some.ensures.foreign k.seen synced) in
+    (done, gates.0, gates.1, sym native))
+
+pub returns-in-Ok-Some-clause-native : goal.returns-in-Ok-Some-clause-native
+returns-in-Ok-Some-clause-native g c k told =
+    let some = c.in-Ok-Some.field-0-is in
+    sym (rw some at (c.in-Ok-Some.ensures.foreign k.seen (c.in-Ok.ensures.done k (c.reserve.ensures.same ∙ told))))

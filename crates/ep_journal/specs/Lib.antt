@@ -1,0 +1,7 @@
+pub mod File
+pub mod Frame
+pub mod Held
+pub mod Journal
+pub mod Refusals
+pub mod Repair
+pub mod Walking
