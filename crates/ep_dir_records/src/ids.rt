@@ -1,0 +1,108 @@
+//! New ids.
+
+ghost use Rattle.std.specs.Prelude.{◌≡◌, ◌<◌, ◌++◌, IfOk, IsTrue, OnOk, map, nat_lt};
+ghost use Rattle.std.specs.List.{list_all};
+ghost use Rattle.ep_units.specs.Base36.{digit};
+ghost use Rattle.ep_dir_records.specs.Ids.{id_of, letter, six_digits};
+
+use ep_units::{NoMemory, Units};
+use std::alloc::Global;
+
+/// How many ids there are: six digits of base 36.
+pub const MOST_IDS: u64 = 2_176_782_336;
+
+/// What an id is of.
+#[derive(Clone, Copy, Debug, PartialEq, Eq)]
+pub enum IdKind {
+    Group,
+    Author,
+    Session,
+    ReadOnly,
+}
+
+impl IdKind {
+    /// The letter that its ids begin with.
+    pub fn letter(self) -> u8
+        ensures { result ≡ letter self }
+    {
+        match self {
+            IdKind::Group => b'g',
+            IdKind::Author => b'a',
+            IdKind::Session => b's',
+            IdKind::ReadOnly => b'r',
+        }
+    }
+}
+
+/// Ten numbers below 36, drawn by lot.
+#[derive(Clone, Copy)]
+pub struct Drawn {
+    pub digits: [u8; 10],
+    ghost below: { IsTrue (list_all (λ d. nat_lt d 36) digits) },
+}
+
+// The unit of a digit: 0 to 9, then a to z.
+fn digit(d: u64) -> u16
+    requires { d < 36 }
+    ensures { result ≡ digit d }
+{
+    if d < 10 { 48 + d as u16 } else { 87 + d as u16 }
+}
+
+fn push_drawn(id: &mut Units, drawn: &Drawn) -> Result<(), NoMemory>
+    ensures { OnOk result (id.new ≡ id.old ++ map digit drawn.now.digits) }
+{
+    let mut i = 0;
+    while i < 10 {
+        id.push(digit(drawn.digits[i] as u64))?;
+        i += 1;
+    }
+    Ok(())
+}
+
+fn push_count(id: &mut Units, n: u64) -> Result<(), NoMemory>
+    ensures { OnOk result (id.new ≡ id.old ++ six_digits n) }
+{
+    id.push(digit(n / 60_466_176 % 36))?;
+    id.push(digit(n / 1_679_616 % 36))?;
+    id.push(digit(n / 46_656 % 36))?;
+    id.push(digit(n / 1_296 % 36))?;
+    id.push(digit(n / 36 % 36))?;
+    id.push(digit(n % 36))
+}
+
+/// The id of this kind by ten draws and the count of ids given before it.
+pub fn new_id(alloc: Global, kind: IdKind, drawn: &Drawn, n: u64) -> Result<Units, NoMemory>
+    ensures { IfOk result (λ id. id ≡ id_of kind drawn.now.digits n) }
+{
+    let mut id = Units::new(alloc);
+    id.push(kind.letter() as u16)?;
+    id.push(46)?;
+    push_drawn(&mut id, drawn)?;
+    push_count(&mut id, n)?;
+    Ok(id)
+}
+
+#[cfg(test)]
+mod tests {
+    use super::*;
+    use std::test::Fail;
+
+    const DRAWN: Drawn = Drawn {
+        digits: [10, 11, 12, 13, 14, 15, 16, 17, 18, 35],
+    };
+
+    #[test]
+    fn ids(rt: HostRuntime) -> Result<(), Fail> {
+        for (kind, n, text) in [
+            (IdKind::Group, 0, "g.abcdefghiz000000"),
+            (IdKind::Author, 37, "a.abcdefghiz000011"),
+            (IdKind::Session, MOST_IDS - 1, "s.abcdefghizzzzzzz"),
+            (IdKind::ReadOnly, 1679616, "r.abcdefghiz010000"),
+        ] {
+            let id = new_id(rt.alloc(), kind, &DRAWN, n)?;
+            assert_eq!(rt; id.to_text_lossy(rt.alloc())?.as_str(), text);
+        }
+        Ok(())
+    }
+}

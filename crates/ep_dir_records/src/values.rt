@@ -1,0 +1,252 @@
+//! What stands under each kind of key.
+
+ghost use Rattle.std.specs.Prelude.{◌≡◌, IfOk, MatchOption, is_some};
+ghost use Rattle.std.specs.Fmt.{decimal};
+ghost use Rattle.ep_units.specs.Utf8.{units_of};
+ghost use Rattle.ep_dir_records.specs.Ids.{letter};
+ghost use Rattle.ep_dir_records.specs.Values.{all_alphanumeric, count_in, cut_at_space, empty_in, id_in, info_behind, info_by, is_id, number_from, number_in, pad_in, session_in, session_text};
+
+use crate::ids::{IdKind, MOST_IDS};
+use ep_outside::Text;
+use ep_units::{NoMemory, PadId, Units};
+use std::alloc::Global;
+
+/// What a session of a group stands for: its author may enter the pads of its group until then.
+#[derive(Drop)]
+pub struct SessionInfo {
+    pub id: Units,
+    pub group: Units,
+    pub author: Units,
+    /// Seconds since the beginning of 1970.
+    pub valid_until: u64,
+}
+
+/// Whether nothing stands there.
+pub fn is_empty(value: &str) -> bool
+    ensures { result ≡ is_some (empty_in value.now) }
+{
+    value.is_empty()
+}
+
+/// A number in its shortest digits.
+pub fn number_text(alloc: Global, n: u64) -> Result<Text, NoMemory>
+    ensures { IfOk result (λ text. text ≡ decimal n) }
+{
+    Ok(Text::from_string(format!(in alloc; "{n}")?))
+}
+
+fn read_number(digits: &[u8]) -> Option<u64>
+    ensures { result ≡ number_from 0 digits.now }
+{
+    let mut n: u64 = 0;
+    let mut at = 0;
+    while at < digits.len() {
+        let b = digits[at];
+        if b < 48 || b >= 58 {
+            return None;
+        }
+        let d = (b - 48) as u64;
+        if n > (u64::MAX - d) / 10 {
+            return None;
+        }
+        n = 10 * n + d;
+        at += 1;
+    }
+    Some(n)
+}
+
+fn number_in(alloc: Global, text: &str) -> Result<Option<u64>, NoMemory>
+    ensures { IfOk result (λ n. n ≡ number_in text.now) }
+{
+    let Some(n) = read_number(text.as_bytes()) else {
+        return Ok(None);
+    };
+    let shortest = format!(in alloc; "{n}")?;
+    if shortest.as_str() == text {
+        Ok(Some(n))
+    } else {
+        Ok(None)
+    }
+}
+
+/// A count of ids.
+pub fn count_in(alloc: Global, value: &str) -> Result<Option<u64>, NoMemory>
+    ensures { IfOk result (λ n. n ≡ count_in value.now) }
+{
+    match number_in(alloc, value)? {
+        Some(n) => { if n <= MOST_IDS { Ok(Some(n)) } else { Ok(None) } }
+        None => Ok(None),
+    }
+}
+
+fn are_alphanumeric(text: &[u8]) -> bool
+    ensures { result ≡ all_alphanumeric text.now }
+{
+    let mut at = 0;
+    while at < text.len() {
+        if !text[at].is_ascii_alphanumeric() {
+            return false;
+        }
+        at += 1;
+    }
+    true
+}
+
+fn is_id(kind: IdKind, text: &str) -> bool
+    ensures { result ≡ is_id (letter kind) text.now }
+{
+    let bytes = text.as_bytes();
+    bytes.len() == 18
+        && bytes[0] == kind.letter()
+        && bytes[1] == 46
+        && are_alphanumeric(&bytes[2..])
+}
+
+/// An id of this kind.
+pub fn id_in(alloc: Global, kind: IdKind, value: &str) -> Result<Option<Units>, NoMemory>
+    ensures { IfOk result (λ id. id ≡ id_in kind value.now) }
+{
+    if is_id(kind, value) {
+        Ok(Some(Units::from_str(alloc, value)?))
+    } else {
+        Ok(None)
+    }
+}
+
+/// Any text.
+pub fn name_in(alloc: Global, value: &str) -> Result<Units, NoMemory>
+    ensures { IfOk result (λ name. name ≡ units_of value.now) }
+{
+    Units::from_str(alloc, value)
+}
+
+/// A pad's own id.
+pub fn pad_in(alloc: Global, value: &str) -> Result<Option<PadId>, NoMemory>
+    ensures { IfOk result (λ pad. pad ≡ pad_in value.now) }
+{
+    let id = Units::from_str(alloc, value)?;
+    PadId::read(alloc, &id)
+}
+
+fn cut_at_space(text: &str) -> Option<(&str, &str)>
+    ensures { MatchOption result (cut_at_space text.now ≡ None) (λ x. cut_at_space text.now ≡ Some (x.0.now, x.1.now)) }
+{
+    text.split_once(' ')
+}
+
+fn info_by(
+    alloc: Global,
+    id: &Units,
+    group: &str,
+    author: &str,
+    until: Option<u64>,
+) -> Result<Option<SessionInfo>, NoMemory>
+    ensures { IfOk result (λ info. info ≡ info_by id.now group.now author.now until) }
+{
+    let Some(valid_until) = until else {
+        return Ok(None);
+    };
+    if !is_id(IdKind::Group, group) || !is_id(IdKind::Author, author) {
+        return Ok(None);
+    }
+    Ok(Some(SessionInfo {
+        id: id.copy(alloc)?,
+        group: Units::from_str(alloc, group)?,
+        author: Units::from_str(alloc, author)?,
+        valid_until,
+    }))
+}
+
+fn info_behind(
+    alloc: Global,
+    id: &Units,
+    group: &str,
+    rest: &str,
+) -> Result<Option<SessionInfo>, NoMemory>
+    ensures { IfOk result (λ info. info ≡ info_behind id.now group.now (cut_at_space rest.now)) }
+{
+    match cut_at_space(rest) {
+        Some((author, until)) => info_by(alloc, id, group, author, number_in(alloc, until)?),
+        None => Ok(None),
+    }
+}
+
+/// The session with this id.
+pub fn session_in(alloc: Global, id: &Units, value: &str) -> Result<Option<SessionInfo>, NoMemory>
+    ensures { IfOk result (λ info. info ≡ session_in id.now value.now) }
+{
+    match cut_at_space(value) {
+        Some((group, rest)) => info_behind(alloc, id, group, rest),
+        None => Ok(None),
+    }
+}
+
+/// The value of a session: its group, author and end with single spaces between them.
+pub fn session_text(
+    alloc: Global,
+    group: &Units,
+    author: &Units,
+    valid_until: u64,
+) -> Result<Text, NoMemory>
+    ensures { IfOk result (λ text. text ≡ session_text group.now author.now valid_until) }
+{
+    let mut text = Text::from_string(group.to_text_lossy(alloc)?);
+    text.push_str(" ")?;
+    text.push_str(author.to_text_lossy(alloc)?.as_str())?;
+    text.push_str(" ")?;
+    text.push_str(number_text(alloc, valid_until)?.as_str())?;
+    Ok(text)
+}
+
+#[cfg(test)]
+mod tests {
+    use super::*;
+    use std::test::Fail;
+
+    #[test]
+    fn counts(rt: HostRuntime) -> Result<(), Fail> {
+        for (text, n) in [
+            ("0", Some(0)),
+            ("10", Some(10)),
+            ("2176782336", Some(MOST_IDS)),
+            ("2176782337", None),
+            ("", None),
+            ("01", None),
+            ("+1", None),
+            ("1 ", None),
+        ] {
+            assert_eq!(rt; count_in(rt.alloc(), text)?, n, "at {text}");
+        }
+        Ok(())
+    }
+
+    #[test]
+    fn sessions(rt: HostRuntime) -> Result<(), Fail> {
+        let id = Units::from_str(rt.alloc(), "x")?;
+        for (text, there) in [
+            (
+                "g.0123456789abcdef a.0123456789ABCDEF 18446744073709551615",
+                true,
+            ),
+            (
+                "g.0123456789abcdef a.0123456789ABCDEF 18446744073709551616",
+                false,
+            ),
+            ("g.0123456789abcdef a.0123456789ABCDEF 07", false),
+            ("g.0123456789abcdef  a.0123456789ABCDEF 7", false),
+            ("g.0123456789abcdef a.0123456789ABCDEF 7 ", false),
+            ("a.0123456789abcdef a.0123456789ABCDEF 7", false),
+            ("g.0123456789abcde a.0123456789ABCDEF 7", false),
+            ("g.0123456789abcde- a.0123456789ABCDEF 7", false),
+            ("bad", false),
+        ] {
+            let info = session_in(rt.alloc(), &id, text)?;
+            assert_eq!(rt; info.is_some(), there, "at {text}");
+            if let Some(info) = info {
+                let again = session_text(rt.alloc(), &info.group, &info.author, info.valid_until)?;
+                assert_eq!(rt; again.as_str(), text);
+            }
+        }
+        Ok(())
+    }
+}

@@ -1,0 +1,6 @@
+use Rattle.std.proofs.Common.{sym}
+use Rattle.ep_dir_reads.proofs.Chains.{reads_only}
+use Rattle.ep_groups.proofs.dir_machine.DirMachine.session.Goals as goal
+
+pub returns : goal.returns
+returns g c = rw (sym c.self.view_is) (reads_only c.session_of.ensures)

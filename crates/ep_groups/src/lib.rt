@@ -1,0 +1,21 @@
+//! The directory of a pad server: groups, their pads, authors, sessions and read-only ids, over any keeper.
+//!
+//! Each call of `DirMachine` reads what it needs, plans its answer and its puts, and then makes the one
+//! `put_all`, so that a refusal has changed nothing. The crates above may rest on each call being its
+//! definition in `specs/` wherever the keeper tells its map, and on the causes of its refusals. It is
+//! not for what a pad itself decides: who may enter a pad that is there stands with the pad.
+#![tactic(auto)]
+
+mod authors;
+mod dir_machine;
+mod entries;
+mod grants;
+mod group_pads;
+mod groups;
+mod read_only;
+mod sessions;
+
+pub use dir_machine::DirMachine;
+pub use entries::{DirEntry, DirReply, GrantAsked, SessionAsked};
+pub use ep_dir_reads::DirBad;
+pub use ep_dir_records::{Drawn, Listed, SessionInfo};
