@@ -1,0 +1,4 @@
+pub mod Pieces
+pub mod Walk
+pub mod Ends
+pub mod Refusals
