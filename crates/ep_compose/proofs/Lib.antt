@@ -1,0 +1,9 @@
+pub mod Arms
+pub mod Claims
+pub mod Goes
+pub mod Moves
+pub mod Boths
+pub mod Heads
+pub mod Pieces
+pub mod Ends
+pub mod Algebra

@@ -1,0 +1,119 @@
+use Rattle.std.proofs.Common.{◌≡◌, ◌≤◌, drop, take, length, refl, sym, ap, ap₂, ◌∙◌}
+use Rattle.std.proofs.lemmas.List.{length-take-le}
+use Rattle.ep_attr.specs.AttrMap.{join, after}
+use Rattle.ep_cs.specs.Draft.{keeping, dropping, inserting}
+use Rattle.ep_cs.specs.declared.op.Kind.TheVariants as kind
+use Rattle.ep_cursor.proofs.Lefts.{first_is}
+use Rattle.ep_compose.proofs.Heads.{IsNew, moved, new_head, first_some, second_some, dropped_lines, later_lines, kept_says, rest_is_kept, IsPart, kept_part, inserted_part, part_text, room_for_kept, part_length}
+use Rattle.ep_compose.proofs.Moves.{first_drops, rest_then_kept}
+use Rattle.ep_cursor.proofs.Parts.{some_shorter, inside_first, inside_second}
+use Rattle.ep_compose.proofs.Boths.{kept_then_kept, inserted_then_kept}
+use Rattle.ep_compose.proofs.step.keep.Goals as goal
+
+-- src/step.rt:67:9
+pub keep-requires-clause-inside : goal.keep-requires-clause-inside
+keep-requires-clause-inside c = (rest_is_kept c.args.out.now c.args.a.now c.args.b.now c.args.later.now c.in_default.ensures.head c.requires.head c.requires.kind c.requires.go).1
+
+-- src/step.rt:67:9
+pub keep-requires-clause-lined : goal.keep-requires-clause-lined
+keep-requires-clause-lined c = later_lines c.args.out.now c.args.a.now c.args.b.now c.args.later.now (kept_says c.args.b.now c.args.later.now c.requires.head c.requires.kind) c.requires.go
+
+-- src/step.rt:68:9
+pub skip-requires : goal.skip-requires
+skip-requires c = (rest_is_kept c.args.out.now c.args.a.now c.args.b.now c.args.later.now c.in_default.ensures.head c.requires.head c.requires.kind c.requires.go).0
+
+-- src/step.rt:70:9
+pub returns-in_default : goal.returns-in_default
+returns-in_default c =
+    let out = c.args.out.now in
+    let b = c.args.b.now in
+    let g = c.args.later.now in
+    moved out (keeping out g.units g.lines g.attrs.now) c.keep.new.self c.args.a.now _ c.skip.new.self b _ c.advance.new.self c.in_ok-keep.ensures.ok c.skip.ensures c.advance.ensures
+    (rest_then_kept out c.args.a.now b g.units g.lines g.attrs.now (drop 1 b.ops) c.in_default.ensures.head (first_is g b kind.Keep c.requires.head c.requires.kind) (second_some out c.args.a.now b g c.requires.head c.requires.go) c.requires.go)
+
+-- src/step.rt:74:13
+pub drop_units-requires-clause-lined : goal.drop_units-requires-clause-lined
+drop_units-requires-clause-lined c = dropped_lines c.args.out.now c.args.a.now c.args.b.now c.in-Some.head c.in-Some.ensures.head c.in-Drop.is c.requires.go
+
+-- src/step.rt:80:13
+pub keep_owned-requires-clause-lined : goal.keep_owned-requires-clause-lined
+keep_owned-requires-clause-lined c =
+    (kept_part c.args.out.now c.args.a.now c.args.b.now c.in-Some.head c.args.later.now c.shorter-part.result.units c.shorter-part.result.lines c.in-Some.ensures.head c.in-Keep.is c.requires.head
+    (kept_says c.args.b.now c.args.later.now c.requires.head c.requires.kind) c.shorter-part.ensures c.requires.go).lines
+
+-- src/step.rt:81:13
+pub advance-requires-in-Keep-clause-lines : goal.advance-requires-in-Keep-clause-lines
+advance-requires-in-Keep-clause-lines c =
+    (kept_part c.args.out.now c.args.a.now c.args.b.now c.in-Some.head c.args.later.now c.shorter-part.result.units c.shorter-part.result.lines c.in-Some.ensures.head c.in-Keep.is c.requires.head
+    (kept_says c.args.b.now c.args.later.now c.requires.head c.requires.kind) c.shorter-part.ensures c.requires.go).first
+
+-- src/step.rt:82:13
+pub advance-requires-in-Keep-2-clause-lines : goal.advance-requires-in-Keep-2-clause-lines
+advance-requires-in-Keep-2-clause-lines c =
+    (kept_part c.args.out.now c.args.a.now c.args.b.now c.in-Some.head c.args.later.now c.shorter-part.result.units c.shorter-part.result.lines c.in-Some.ensures.head c.in-Keep.is c.requires.head
+    (kept_says c.args.b.now c.args.later.now c.requires.head c.requires.kind) c.shorter-part.ensures c.requires.go).second
+
+-- src/step.rt:87:13
+pub insert_owned-requires : goal.insert_owned-requires
+insert_owned-requires c =
+    let h = c.in-Some.head in
+    let g = c.args.later.now in
+    let p = c.shorter-part-in-Insert.result in
+    let n : IsNew h c.args.a.now = new_head h c.args.a.now c.in-Some.ensures.head c.in-Insert.is c.in-Some.ensures.written in
+    room_for_kept c.args.out.now c.args.a.now c.args.b.now g p.units (take p.units h.text.now) c.requires.head c.requires.kind (inside_second p.units p.lines h.units h.lines g.units g.lines c.shorter-part-in-Insert.ensures) (part_length h.text.now p.units) c.requires.go
+
+-- src/step.rt:88:13
+pub advance-requires-in-Insert-clause-lines : goal.advance-requires-in-Insert-clause-lines
+advance-requires-in-Insert-clause-lines c =
+    (inserted_part c.args.out.now c.args.a.now c.args.b.now c.in-Some.head c.args.later.now c.shorter-part-in-Insert.result.units c.shorter-part-in-Insert.result.lines
+    (new_head c.in-Some.head c.args.a.now c.in-Some.ensures.head c.in-Insert.is c.in-Some.ensures.written) c.requires.head
+    (kept_says c.args.b.now c.args.later.now c.requires.head c.requires.kind) c.shorter-part-in-Insert.ensures c.requires.go).first
+
+-- src/step.rt:89:13
+pub advance-requires-in-Insert-2-clause-lines : goal.advance-requires-in-Insert-2-clause-lines
+advance-requires-in-Insert-2-clause-lines c =
+    (inserted_part c.args.out.now c.args.a.now c.args.b.now c.in-Some.head c.args.later.now c.shorter-part-in-Insert.result.units c.shorter-part-in-Insert.result.lines
+    (new_head c.in-Some.head c.args.a.now c.in-Some.ensures.head c.in-Insert.is c.in-Some.ensures.written) c.requires.head
+    (kept_says c.args.b.now c.args.later.now c.requires.head c.requires.kind) c.shorter-part-in-Insert.ensures c.requires.go).second
+
+-- src/step.rt:54:1
+pub returns-in_ok-drop_units-in-Drop : goal.returns-in_ok-drop_units-in-Drop
+returns-in_ok-drop_units-in-Drop c =
+    let out = c.args.out.now in
+    let a = c.args.a.now in
+    let b = c.args.b.now in
+    let h = c.in-Some.head in
+    moved out (dropping out h.units h.lines) c.drop_units.new.self a _ c.advance-in-Drop.new.self b b b c.in_ok-drop_units-in-Drop.ensures.ok c.advance-in-Drop.ensures refl
+    (first_drops out a b h.units h.lines h.attrs.now (drop 1 a.ops) (first_is h a kind.Drop c.in-Some.ensures.head c.in-Drop.is) (first_some out a b h c.in-Some.ensures.head c.requires.go) c.requires.go)
+
+-- src/step.rt:54:1
+pub returns-in_ok-keep_owned-in-Keep : goal.returns-in_ok-keep_owned-in-Keep
+returns-in_ok-keep_owned-in-Keep c =
+    let out = c.args.out.now in
+    let a = c.args.a.now in
+    let b = c.args.b.now in
+    let h = c.in-Some.head in
+    let g = c.args.later.now in
+    let p = c.shorter-part.result in
+    let m : c.in_ok-attrs-in-Keep.attrs ≡ join h.attrs.now g.attrs.now = c.in_ok-attrs-in-Keep.ensures in
+    moved out (keeping out p.units p.lines (join h.attrs.now g.attrs.now)) c.keep_owned.new.self a _ c.advance-in-Keep.new.self b _ c.advance-in-Keep-2.new.self
+    (c.in_ok-keep_owned-in-Keep.ensures.ok ∙ ap (keeping out p.units p.lines) m) c.advance-in-Keep.ensures c.advance-in-Keep-2.ensures
+    (kept_then_kept out a b p.units p.lines h.units h.lines g.units g.lines h.attrs.now g.attrs.now (drop 1 a.ops) (drop 1 b.ops) (first_is h a kind.Keep c.in-Some.ensures.head c.in-Keep.is) (first_is g b kind.Keep c.requires.head c.requires.kind)
+    c.shorter-part.ensures (some_shorter p.units p.lines h.units h.lines g.units g.lines c.shorter-part.ensures (first_some out a b h c.in-Some.ensures.head c.requires.go) (second_some out a b g c.requires.head c.requires.go)) c.requires.go)
+
+-- src/step.rt:54:1
+pub returns-in_ok-insert_owned-in-Insert : goal.returns-in_ok-insert_owned-in-Insert
+returns-in_ok-insert_owned-in-Insert c =
+    let out = c.args.out.now in
+    let a = c.args.a.now in
+    let b = c.args.b.now in
+    let h = c.in-Some.head in
+    let g = c.args.later.now in
+    let p = c.shorter-part-in-Insert.result in
+    let s = c.shorter-part-in-Insert.ensures in
+    let n : IsNew h a = new_head h a c.in-Some.ensures.head c.in-Insert.is c.in-Some.ensures.written in
+    let m : c.in_ok-attrs-in-Insert.attrs ≡ after h.attrs.now g.attrs.now = c.in_ok-attrs-in-Insert.ensures in
+    moved out (inserting out (take p.units a.bank) (after h.attrs.now g.attrs.now)) c.insert_owned.new.self a _ c.advance-in-Insert.new.self b _ c.advance-in-Insert-2.new.self
+    (c.in_ok-insert_owned-in-Insert.ensures.ok ∙ ap₂ (inserting out) (part_text h a p.units n (inside_first p.units p.lines h.units h.lines g.units g.lines s)) m) c.advance-in-Insert.ensures c.advance-in-Insert-2.ensures
+    (inserted_then_kept out a b p.units p.lines h.units h.lines g.units g.lines h.attrs.now g.attrs.now (drop 1 a.ops) (drop 1 b.ops) n.first (first_is g b kind.Keep c.requires.head c.requires.kind)
+    s (some_shorter p.units p.lines h.units h.lines g.units g.lines s (first_some out a b h c.in-Some.ensures.head c.requires.go) (second_some out a b g c.requires.head c.requires.go)) n.bare n.full c.requires.go)

@@ -1,0 +1,10 @@
+pub mod Begin
+pub mod Lined
+pub mod Cuts
+pub mod Made
+pub mod Lefts
+pub mod Documents
+pub mod Starts
+pub mod Advances
+pub mod TrueDrafts
+pub mod Parts
