@@ -1,0 +1,35 @@
+use Rattle.std.proofs.Common.{◌∙◌, ◌+◌, ◌<◌, ◌^◌, length, ap, arith}
+use Rattle.ep_cs.specs.Doc.{text_of}
+use Rattle.ep_cs.specs.Edit.{apply}
+use Rattle.ep_cs.specs.Draft.{blank}
+use Rattle.ep_cs.specs.Change.{bank_of}
+use Rattle.ep_cs.specs.Spelling.{new_len}
+use Rattle.ep_follow.specs.Follows.{is_a}
+use Rattle.ep_follow.proofs.Whole.{IsWalked, started, under_way, walked_follows}
+use Rattle.ep_follow.proofs.following.written.Goals as goal
+
+pub walk-requires : goal.walk-requires
+walk-requires c =
+    let a = c.args.a.now in
+    let b = c.args.b.now in
+    let room : new_len a.edit + length (bank_of b.edit) < 2 ^ 32 = omega (arith, c.if-len-room.false, c.new_len-room.ensures, c.len.ensures, ap length c.bank.ensures, c.new-left.ensures.normal.new) in
+    let made = text_of (apply a.edit c.requires.0) in (
+      made,
+      started made a b c.new-out.result c.new-left.result c.new-right.result (c.new-out.ensures ∙ ap blank c.new_len.ensures) c.new-left.ensures.left c.new-right.ensures.left
+          (under_way a b c.new-left.ensures.normal c.new-right.ensures.normal c.requires.0 c.requires.1 c.requires.2 room),
+    )
+
+pub returns : goal.returns
+returns c =
+    let w : IsWalked (is_a c.args.first) c.args.a.now c.args.b.now c.new-out.result c.walk.new.out c.new-left.result c.new-right.result c.walk.new.a c.walk.new.b = record {
+      first_normal = c.new-left.ensures.normal;
+      second_normal = c.new-right.ensures.normal;
+      begins = c.new-out.ensures ∙ ap blank c.new_len.ensures;
+      first = c.new-left.ensures.left;
+      second = c.new-right.ensures.left;
+      room = omega (arith, c.if-len-room.false, c.new_len-room.ensures, c.len.ensures, ap length c.bank.ensures, c.new-left.ensures.normal.new);
+      same = c.in_ok-walk.ensures.same;
+      done = c.in_ok-walk.ensures.done;
+      go = c.in_ok-walk.ensures.go;
+    } in
+    walked_follows (is_a c.args.first) c.args.a.now c.args.b.now c.new-out.result c.walk.new.out c.new-left.result c.new-right.result c.walk.new.a c.walk.new.b w

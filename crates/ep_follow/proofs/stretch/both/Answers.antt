@@ -1,0 +1,74 @@
+use Rattle.std.proofs.Common.{ℕ, ◌+◌, ◌<◌, refl, arith}
+use Rattle.ep_cursor.specs.Left.{Left, advanced, steps_left}
+use Rattle.ep_follow.specs.Gaps.{fate_of}
+use Rattle.ep_follow.proofs.Stretches.{IsPass, part_is, shorter_within, pass_steps, run_same, run_room, run_less, both_goes}
+use Rattle.ep_cursor.proofs.Advances.{head_units}
+use Rattle.ep_follow.proofs.stretch.both.Goals as goal
+
+pub write-requires-clause-inside : goal.write-requires-clause-inside
+write-requires-clause-inside c =
+    let h = c.args.head.now in
+    let q = c.args.later.now in
+    let k = c.shorter-part.result in
+    let a : Left = advanced k.units k.lines c.args.a.now in
+    let p : IsPass h c.args.a.now a k.units k.lines = record { head = c.requires.head; passes = c.requires.first; is = refl; within = (shorter_within k.units k.lines h.units h.lines q.units q.lines c.shorter-part.ensures).0 } in
+    run_room c.requires.go.0 c.args.out.now c.args.a.now c.args.b.now a k.units (fate_of h.kind h.attrs.now) c.requires.go.1 (pass_steps h c.args.a.now a k.units k.lines p)
+
+pub write-requires-clause-lined : goal.write-requires-clause-lined
+write-requires-clause-lined c =
+    let u = c.requires.go.1 in
+    (part_is u.text c.args.a.now c.args.b.now c.args.head.now c.args.later.now c.shorter-part.result.units c.shorter-part.result.lines c.shorter-part.ensures c.requires.head c.requires.later c.requires.first c.requires.second u.first u.second).lines
+
+pub advance-requires-clause-lines : goal.advance-requires-clause-lines
+advance-requires-clause-lines c =
+    let u = c.requires.go.1 in
+    let p = part_is u.text c.args.a.now c.args.b.now c.args.head.now c.args.later.now c.shorter-part.result.units c.shorter-part.result.lines c.shorter-part.ensures c.requires.head c.requires.later c.requires.first c.requires.second u.first u.second in
+    omega (arith, p.first_lines, (head_units c.args.head.now c.args.a.now c.requires.head).1)
+
+pub advance-requires-2-clause-lines : goal.advance-requires-2-clause-lines
+advance-requires-2-clause-lines c =
+    let u = c.requires.go.1 in
+    let p = part_is u.text c.args.a.now c.args.b.now c.args.head.now c.args.later.now c.shorter-part.result.units c.shorter-part.result.lines c.shorter-part.ensures c.requires.head c.requires.later c.requires.first c.requires.second u.first u.second in
+    omega (arith, p.second_lines, (head_units c.args.later.now c.args.b.now c.requires.later).1)
+
+pub returns-clause-same : goal.returns-clause-same
+returns-clause-same c = λ side.
+    let h = c.args.head.now in
+    let q = c.args.later.now in
+    let k = c.shorter-part.result in
+    let within = shorter_within k.units k.lines h.units h.lines q.units q.lines c.shorter-part.ensures in
+    run_same side k.units k.lines (fate_of h.kind h.attrs.now) (fate_of q.kind q.attrs.now) c.args.out.now c.write.new.out
+    (steps_left c.args.a.now) (steps_left c.advance.new.self) (steps_left c.args.b.now) (steps_left c.advance-2.new.self) c.in_ok-write.ensures
+    (pass_steps h c.args.a.now c.advance.new.self k.units k.lines (record { head = c.requires.head; passes = c.requires.first; is = c.advance.ensures; within = within.0 }))
+    (pass_steps q c.args.b.now c.advance-2.new.self k.units k.lines (record { head = c.requires.later; passes = c.requires.second; is = c.advance-2.ensures; within = within.1 }))
+
+pub returns-clause-less : goal.returns-clause-less
+returns-clause-less c =
+    let h = c.args.head.now in
+    let q = c.args.later.now in
+    let k = c.shorter-part.result in
+    let u = c.requires.go.1 in
+    let within = shorter_within k.units k.lines h.units h.lines q.units q.lines c.shorter-part.ensures in
+    let p = part_is u.text c.args.a.now c.args.b.now h q k.units k.lines c.shorter-part.ensures c.requires.head c.requires.later c.requires.first c.requires.second u.first u.second in
+    let a = run_less k.units (fate_of h.kind h.attrs.now) (steps_left c.args.a.now) (steps_left c.advance.new.self) p.some
+    (pass_steps h c.args.a.now c.advance.new.self k.units k.lines (record { head = c.requires.head; passes = c.requires.first; is = c.advance.ensures; within = within.0 })) in
+    let b = run_less k.units (fate_of q.kind q.attrs.now) (steps_left c.args.b.now) (steps_left c.advance-2.new.self) p.some
+    (pass_steps q c.args.b.now c.advance-2.new.self k.units k.lines (record { head = c.requires.later; passes = c.requires.second; is = c.advance-2.ensures; within = within.1 })) in
+    sum_less _ _ _ _ a b
+  where
+    sum_less : (x y z w : ℕ) → x < y → z < w → x + z < y + w
+    sum_less x y z w h k = omega (arith, h, k)
+
+pub returns-clause-go : goal.returns-clause-go
+returns-clause-go c = λ made u.
+    let h = c.args.head.now in
+    let q = c.args.later.now in
+    let k = c.shorter-part.result in
+    let within = shorter_within k.units k.lines h.units h.lines q.units q.lines c.shorter-part.ensures in
+    both_goes made c.args.out.now c.write.new.out c.args.a.now c.args.b.now c.advance.new.self c.advance-2.new.self h q k.units k.lines
+    (record {
+      going = u;
+      first = record { head = c.requires.head; passes = c.requires.first; is = c.advance.ensures; within = within.0 };
+      second = record { head = c.requires.later; passes = c.requires.second; is = c.advance-2.ensures; within = within.1 };
+      shorter = c.shorter-part.ensures;
+    }) c.in_ok-write.ensures

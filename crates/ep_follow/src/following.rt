@@ -1,0 +1,44 @@
+//! The change that follows another.
+
+ghost use Rattle.std.specs.Prelude.{◌≡◌, true, IfOk};
+ghost use Rattle.ep_cs.specs.Doc.{Doc};
+ghost use Rattle.ep_cs.specs.Edit.{apply};
+ghost use Rattle.ep_cs.specs.Fits.{Fits, is_identity};
+ghost use Rattle.ep_follow.specs.Follows.{is_a, Follows};
+ghost use Rattle.ep_follow.specs.Following.{IsFollower};
+
+use crate::step::walk;
+use ep_cs::{Builder, Change, First};
+use ep_cursor::Cursor;
+use ep_units::NoMemory;
+use std::alloc::Global;
+
+/// What follows, written as far as the second change goes.
+fn written(alloc: Global, a: &Change, b: &Change, first: First) -> Result<Builder, NoMemory>
+    requires { (doc : Doc) × Fits a.now doc × Fits b.now doc }
+    ensures { IfOk result (λ out. (doc : Doc) → Fits a.now doc → Fits b.now doc → IsFollower (is_a first) a.now b.now doc out) }
+{
+    let room = u32::MAX - a.new_len();
+    if b.bank().len() > room as usize {
+        return Err(NoMemory);
+    }
+    let mut out = Builder::new(alloc, a.new_len());
+    let mut left = Cursor::new(a);
+    let mut right = Cursor::new(b);
+    walk(alloc, &mut out, &mut left, &mut right, first)?;
+    Ok(out)
+}
+
+/// The second of two changes of one document, as a change of what the first makes of it: it keeps what the first
+/// inserts, inserts what the second inserts, and drops and dresses what is left. At a gap where both insert and nothing
+/// else decides, `first` says whose piece goes first. It fits the first's result of every document that both fit.
+/// Where the first's result and the second's insertions have 2^32 units or more together, memory is said to be wanting.
+pub fn follow(alloc: Global, a: &Change, b: &Change, first: First) -> Result<Change, NoMemory>
+    requires { (doc : Doc) × Fits a.now doc × Fits b.now doc }
+    ensures exact { IfOk result (λ c. Follows first a.now b.now c) }
+    ensures fits { IfOk result (λ c. (doc : Doc) → Fits a.now doc → Fits b.now doc → Fits c (apply a.now.edit doc)) }
+    ensures through { IfOk result (λ c. is_identity a.now.edit ≡ true → c ≡ b.now) }
+    ensures nothing { IfOk result (λ c. is_identity b.now.edit ≡ true → is_identity c.edit ≡ true) }
+{
+    written(alloc, a, b, first)?.finish()
+}

@@ -1,0 +1,61 @@
+//! The walk over two changes side by side.
+
+ghost use Rattle.std.specs.Prelude.{◌≡◌, ◌+◌, ◌<◌, ◌++◌, [], true, length, OnOk};
+ghost use Rattle.ep_units.specs.Text.{Text};
+ghost use Rattle.ep_cursor.specs.Left.{steps_left};
+ghost use Rattle.ep_follow.specs.Follows.{is_a};
+ghost use Rattle.ep_follow.specs.Gaps.{followed, has_runs};
+ghost use Rattle.ep_follow.specs.Following.{UnderWay};
+
+use crate::front::{at_gap, has_runs};
+use crate::gap::gap;
+use crate::stretch::{both, rest};
+use ep_cs::{Builder, First};
+use ep_cursor::Cursor;
+use ep_units::NoMemory;
+use std::alloc::Global;
+
+/// Takes one gap, or the places of one run in both changes.
+fn step(
+    alloc: Global,
+    out: &mut Builder,
+    a: &mut Cursor<'_>,
+    b: &mut Cursor<'_>,
+    first: First,
+) -> Result<(), NoMemory>
+    requires runs { has_runs b.old.ops ≡ true }
+    requires go { (made : Text) × UnderWay made out.old a.old b.old }
+    ensures same { OnOk result (out.new.steps ++ followed (is_a first) (steps_left a.new) (steps_left b.new) ≡ out.old.steps ++ followed (is_a first) (steps_left a.old) (steps_left b.old)) }
+    ensures less { OnOk result (length (steps_left a.new) + length (steps_left b.new) < length (steps_left a.old) + length (steps_left b.old)) }
+    ensures go { OnOk result ((made : Text) → UnderWay made out.old a.old b.old → UnderWay made out.new a.new b.new) }
+{
+    if at_gap(a, b) {
+        return gap(alloc, out, a, b, first);
+    }
+    let Some(later) = b.head() else {
+        return Ok(());
+    };
+    match a.head() {
+        None => rest(out, a, b, &later),
+        Some(head) => both(alloc, out, a, b, &head, &later),
+    }
+}
+
+/// Takes all that the second change does. What is left after it is kept.
+pub fn walk(
+    alloc: Global,
+    out: &mut Builder,
+    a: &mut Cursor<'_>,
+    b: &mut Cursor<'_>,
+    first: First,
+) -> Result<(), NoMemory>
+    requires { (made : Text) × UnderWay made out.old a.old b.old }
+    ensures same { OnOk result (out.new.steps ++ followed (is_a first) (steps_left a.new) (steps_left b.new) ≡ out.old.steps ++ followed (is_a first) (steps_left a.old) (steps_left b.old)) }
+    ensures done { OnOk result (b.new.ops ≡ []) }
+    ensures go { OnOk result ((made : Text) → UnderWay made out.old a.old b.old → UnderWay made out.new a.new b.new) }
+{
+    'steps: while has_runs(b) {
+        step(alloc, out, a, b, first)?;
+    }
+    Ok(())
+}
