@@ -1,22 +1,28 @@
-//! A document as its text and its stretches of one map each.
+//! Documents.
 
-ghost use Rattle.std.specs.Prelude.{◌≡◌, ◌+◌, ◌<◌, ◌^◌, ◌++◌, ◌∷◌, [], length, OnOk, IfOk};
+ghost use Rattle.std.specs.Prelude.{◌≡◌, ◌∷◌, [], length, IfOk};
 ghost use Rattle.ep_cs.specs.Doc.{text_of};
 ghost use Rattle.ep_cs.specs.Plain.{plain};
-ghost use Rattle.ep_cs.specs.Runs.{cells};
+ghost use Rattle.ep_apply.specs.Documents.{IsDocument, insertion};
 
-use crate::rest::{Rest, first_units};
-use crate::span::Span;
+use crate::copied::copied;
+use crate::making::Making;
+use crate::maps::copy_maps;
+use crate::parts::Parts;
+use crate::span::first_units;
 use ep_attr::AttrMap;
+use ep_cs::{Builder, Change};
 use ep_units::{NoMemory, Units};
 use std::alloc::Global;
 use std::marker::Model;
 
+/// How many maps may have a number in vain.
+const SPARE: usize = 64;
+
 /// Attributed text.
 #[derive(Drop)]
 pub struct Doc {
-    text: Units,
-    spans: Vec<Span>,
+    pub(crate) parts: Parts,
 }
 
 impl Model for Doc {
@@ -29,11 +35,7 @@ impl Model for Doc {
 
     ghost coded = { coded_list coded_cell };
 
-    ghost use Rattle.ep_apply.specs.Spans.{doc_of, IsDoc};
-
-    ghost view = { doc_of };
-
-    ghost invariant = { IsDoc };
+    ghost view = { λ d. d.parts.cells };
 }
 
 impl Doc {
@@ -42,8 +44,7 @@ impl Doc {
         ensures { result ≡ [] }
     {
         Doc {
-            text: Units::new(alloc),
-            spans: Vec::new(alloc),
+            parts: Parts::empty(alloc),
         }
     }
 
@@ -51,65 +52,67 @@ impl Doc {
     pub fn newline(alloc: Global) -> Result<Doc, NoMemory>
         ensures { IfOk result (λ d. d ≡ plain (10 ∷ [])) }
     {
-        let mut doc = Doc::empty(alloc);
-        doc.push(&[10], AttrMap::none(alloc))?;
-        Ok(doc)
+        let mut parts = Parts::empty(alloc);
+        let number = parts.number(AttrMap::none(alloc))?;
+        parts.push(&[10], number)?;
+        Ok(Doc { parts })
     }
 
     /// How many UTF-16 units it has.
     pub fn len(&self) -> u32
         ensures { result ≡ length self.now }
     {
-        self.text.len() as u32
+        self.parts.len()
     }
 
     pub fn text(&self) -> &Units
         ensures { result.now ≡ text_of self.now }
     {
-        &self.text
-    }
-
-    /// Adds a text with one map.
-    pub(crate) fn push(&mut self, text: &[u16], attrs: AttrMap) -> Result<(), NoMemory>
-        requires { length self.old + length text.now < 2 ^ 32 }
-        ensures { OnOk result (self.new ≡ self.old ++ cells attrs text.now) }
-    {
-        match text {
-            [] => Ok(()),
-            [_, ..] => {
-                self.spans.reserve(1)?;
-                self.text.push_all(text)?;
-                self.spans.push_reserved(Span {
-                    units: text.len() as u32,
-                    attrs,
-                });
-                Ok(())
-            }
-        }
-    }
-
-    /// All of it, to be taken piece by piece.
-    pub(crate) fn rest(&self) -> Rest<'_>
-        ensures { result ≡ self.now }
-    {
-        Rest {
-            spans: self.spans.as_slice(),
-            left: first_units(self.spans.as_slice()),
-            text: self.text.as_slice(),
-        }
+        self.parts.text()
     }
 
     /// The same document again.
     pub fn copy(&self, alloc: Global) -> Result<Doc, NoMemory>
         ensures { IfOk result (λ d. d ≡ self.now) }
     {
-        let mut spans = Vec::with_capacity(alloc, self.spans.len())?;
-        for span in &self.spans {
-            spans.push(span.copy(alloc)?)?;
-        }
         Ok(Doc {
-            text: self.text.copy(alloc)?,
+            parts: copied(alloc, &self.parts)?,
+        })
+    }
+
+    /// The change on no units that inserts the document.
+    pub fn as_insert(&self, alloc: Global) -> Result<Change, NoMemory>
+        requires { IsDocument self.now }
+        ensures { IfOk result (λ change. change ≡ insertion self.now) }
+    {
+        let mut builder = Builder::new(alloc, 0);
+        self.parts.insert_into(&mut builder)?;
+        builder.finish()
+    }
+
+    /// Whether many more maps have numbers than there are stretches.
+    pub(crate) fn is_crowded(&self) -> bool {
+        self.parts.maps.len() / 2 > self.parts.spans.len().saturating_add(SPARE)
+    }
+
+    /// Nothing made of it yet, with room for what a change makes.
+    pub(crate) fn making(&self, alloc: Global, change: &Change) -> Result<Making<'_>, NoMemory>
+        ensures done { IfOk result (λ m. m.done ≡ []) }
+        ensures rest { IfOk result (λ m. m.rest ≡ self.now) }
+    {
+        let spans = self.parts.spans.as_slice();
+        let room = change
+            .ops()
+            .len()
+            .saturating_mul(2)
+            .saturating_add(spans.len());
+        let maps = copy_maps(alloc, self.parts.maps.as_slice())?;
+        Ok(Making {
+            alloc,
             spans,
+            left: first_units(spans),
+            text: self.parts.text.as_slice(),
+            made: Parts::with_room(alloc, maps, room, change.new_len())?,
         })
     }
 }

@@ -103,3 +103,64 @@ pub fn fits(doc: &Doc, change: &Change) -> Result<(), FitBad>
         Some(at) => Err(FitBad::CutsPair(at as u64)),
     }
 }
+
+#[cfg(test)]
+mod tests {
+    use super::*;
+    use crate::parts::Parts;
+    use ep_attr::AttrMap;
+    use ep_cs::Builder;
+    use ep_units::{NoMemory, Units};
+    use std::alloc::Global;
+    use std::test::Fail;
+
+    /// The document of a text of fewer than 100 units.
+    fn plain(alloc: Global, text: &str) -> Result<Doc, NoMemory> {
+        let text = Units::from_str(alloc, text)?;
+        let mut parts = Parts::empty(alloc);
+        let number = parts.number(AttrMap::none(alloc))?;
+        if 0 < text.len() && text.len() < 100 {
+            parts.push(text.as_slice(), number)?;
+        }
+        Ok(Doc { parts })
+    }
+
+    /// `Z:6>1|1=5+1$!`
+    fn behind_a_line(alloc: Global) -> Result<Change, NoMemory> {
+        let bare = AttrMap::none(alloc);
+        let mut builder = Builder::new(alloc, 6);
+        builder.keep(5, 1, &bare)?;
+        builder.insert(&[33], &bare)?;
+        builder.finish()
+    }
+
+    /// `Z:4>1=2+1$!`
+    fn behind_two(alloc: Global) -> Result<Change, NoMemory> {
+        let bare = AttrMap::none(alloc);
+        let mut builder = Builder::new(alloc, 4);
+        builder.keep(2, 0, &bare)?;
+        builder.insert(&[33], &bare)?;
+        builder.finish()
+    }
+
+    #[test]
+    fn first_reasons(rt: HostRuntime) -> Result<(), Fail> {
+        let alloc = rt.alloc();
+        let line = behind_a_line(alloc)?;
+        let two = behind_two(alloc)?;
+        for (text, change, answer) in [
+            ("hell\n\n", &line, Ok(())),
+            ("hello\n", &line, Err(FitBad::Newlines(0))),
+            ("he\nlo\n", &line, Err(FitBad::Newlines(0))),
+            ("hello", &line, Err(FitBad::OldLen(5, 6))),
+            ("abc\n", &two, Ok(())),
+            ("a😀\n", &two, Err(FitBad::CutsPair(2))),
+            ("\n😀\n", &two, Err(FitBad::Newlines(0))),
+            ("\n😀", &two, Err(FitBad::OldLen(3, 4))),
+        ] {
+            let doc = plain(alloc, text)?;
+            assert_eq!(rt; fits(&doc, change), answer, "{text}");
+        }
+        Ok(())
+    }
+}

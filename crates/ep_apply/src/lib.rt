@@ -2,11 +2,16 @@
 #![tactic(auto)]
 
 mod applying;
+mod copied;
 mod doc;
 mod fitting;
-mod rest;
+mod laws;
+mod making;
+mod maps;
+mod parts;
 mod span;
 
 pub use applying::apply;
 pub use doc::Doc;
 pub use fitting::fits;
+pub use laws::{documents_stay, inserted_again};
