@@ -1,0 +1,59 @@
+//! Apply, compose and follow where the changes fit.
+
+ghost use Rattle.std.specs.Prelude.{◌≡◌, IfOk, IfErr};
+ghost use Rattle.ep_cs.specs.Doc.{text_of};
+ghost use Rattle.ep_cs.specs.Edit.{apply};
+ghost use Rattle.ep_cs.specs.Change.{stamped};
+ghost use Rattle.ep_cs.specs.Fits.{Fits};
+ghost use Rattle.ep_cs.specs.Follow.{follow};
+ghost use Rattle.ep_compose.specs.Composed.{composed};
+ghost use Rattle.ep_follow.specs.Follows.{is_a};
+ghost use Rattle.ep_calc.specs.Unfit.{IsUnfit, IsUnfitAfter, IsUnfitBeside};
+
+use crate::bad::CalcBad;
+use ep_apply::{Doc, apply, fits};
+use ep_compose::compose;
+use ep_cs::{Change, First};
+use ep_follow::follow;
+use std::alloc::Global;
+
+/// The document after a change.
+pub fn applied(alloc: Global, doc: &Doc, change: &Change) -> Result<Doc, CalcBad>
+    ensures after { IfOk result (λ after. after ≡ apply change.now.edit doc.now) }
+    ensures fits { IfOk result (λ _. Fits change.now doc.now) }
+    ensures refused { IfErr result (λ why. IsUnfit why change.now doc.now) }
+{
+    fits(doc, change)?;
+    Ok(apply(alloc, doc, change)?)
+}
+
+/// One change for two, of which the second is for what the first makes.
+pub fn composed(
+    alloc: Global,
+    doc: &Doc,
+    first: &Change,
+    second: &Change,
+) -> Result<Change, CalcBad>
+    ensures change { IfOk result (λ c. c ≡ composed first.now second.now doc.now) }
+    ensures refused { IfErr result (λ why. IsUnfitAfter why first.now second.now doc.now) }
+{
+    let after = applied(alloc, doc, first)?;
+    fits(&after, second)?;
+    Ok(compose(alloc, first, second)?)
+}
+
+/// The second of two changes of one document, as a change of what the first makes.
+pub fn followed(
+    alloc: Global,
+    doc: &Doc,
+    a: &Change,
+    b: &Change,
+    first: First,
+) -> Result<Change, CalcBad>
+    ensures change { IfOk result (λ c. c ≡ stamped (follow (is_a first) a.now.edit b.now.edit) (text_of (apply a.now.edit doc.now))) }
+    ensures refused { IfErr result (λ why. IsUnfitBeside why a.now b.now doc.now) }
+{
+    fits(doc, a)?;
+    fits(doc, b)?;
+    Ok(follow(alloc, a, b, first)?)
+}
