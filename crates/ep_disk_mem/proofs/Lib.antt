@@ -1,3 +1,4 @@
 pub mod Kept
 pub mod Reading
+pub mod Shelving
 pub mod Touching

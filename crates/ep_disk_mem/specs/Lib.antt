@@ -1,3 +1,4 @@
 pub mod DiskCalls
 pub mod Faults
 pub mod Held
+pub mod Slots

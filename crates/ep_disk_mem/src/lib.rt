@@ -11,16 +11,23 @@ mod held;
 mod mem_clock;
 mod mem_disk;
 mod mem_draws;
+mod mem_file;
+mod mem_shelf;
 mod mem_sink;
 mod mem_source;
 mod ranges;
+mod slots;
 mod torn;
 
 pub use mem_clock::MemClock;
 pub use mem_disk::MemDisk;
 pub use mem_draws::MemDraws;
+pub use mem_file::MemFile;
+pub use mem_shelf::MemShelf;
 pub use mem_sink::MemSink;
 pub use mem_source::MemSource;
 
+#[cfg(test)]
+mod shelf_tests;
 #[cfg(test)]
 mod tests;

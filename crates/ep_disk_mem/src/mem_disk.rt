@@ -29,6 +29,7 @@ pub struct MemDisk {
     // made or restarted, with no room since
     is_fresh: bool,
     asked: Image,
+    bytes_read: u64,
     ghost roomy: { HasSpace held room_calls room_bytes },
     ghost times: { is_fresh ≡ false → vec_len past + room_calls + 1 ≤ vec_capacity past },
     ghost in_sync: { is_fresh ≡ true → (contents_of held ≡ settled held.bytes.items) × (room_calls ≡ 0) },
@@ -43,6 +44,7 @@ impl MemDisk {
         ensures steady { IfOk result (λ d. ⟦<MemDisk as Disk>⟧.is_steady d ≡ (length fails.items == 0)) }
         ensures alone { IfOk result (λ d. ⟦<MemDisk as Disk>⟧.stops_alone d ≡ (length fails.items == 0)) }
         ensures stop { IfOk result (λ d. ⟦<MemDisk as Disk>⟧.left d ≡ None) }
+        ensures bytes_read { IfOk result (λ d. ⟦<MemDisk as Disk>⟧.bytes_read d ≡ Some 0) }
     {
         let synced = Vec::from_slice(alloc, &bytes)?;
         let length = bytes.len() as u64;
@@ -63,6 +65,7 @@ impl MemDisk {
             room_bytes: 0,
             is_fresh: true,
             asked: Image::Old,
+            bytes_read: 0,
         })
     }
 }
@@ -83,6 +86,8 @@ impl Disk for MemDisk {
     ghost left = { λ d. d.calls.left };
 
     ghost stops_alone = { λ d. fails_never d.calls.faults };
+
+    ghost bytes_read = { λ d. Some d.bytes_read };
 
     ghost counts_now = { λ d t c le now. inl now };
 
@@ -105,6 +110,7 @@ impl Disk for MemDisk {
         self.calls.call()?;
         let from = at as usize;
         into.copy_from_slice(&self.held.bytes[from..from + into.len()]);
+        self.bytes_read = self.bytes_read.saturating_add(into.len() as u64);
         Ok(())
     }
 

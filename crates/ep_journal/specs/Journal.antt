@@ -1,6 +1,6 @@
 -- A journal over a disk.
-use Rattle.std.specs.Prelude.{◌≡◌, ℕ, ◌+◌, ◌<◌, length, List, Option, true, false, vec_len, vec_capacity, Some, Result, OnOk, IsErrOf}
-use Rattle.ep_outside.specs.Disk.{Contents, Room, HasRoom, settled}
+use Rattle.std.specs.Prelude.{◌≡◌, ◌⊎◌, ℕ, ◌+◌, ◌<◌, length, List, Option, true, false, vec_len, vec_capacity, Some, Result, OnOk, IsErrOf}
+use Rattle.ep_outside.specs.Disk.{Contents, Room, HasRoom, IsImage, settled}
 use Rattle.ep_journal.specs.File.{mended, stands_for, is_foreign}
 use Rattle.ep_journal.specs.Held.{IsHeld, Stands}
 use Rattle.ep_journal.specs.Walking.{AreSpaced}
@@ -47,6 +47,10 @@ pub record IsSameOver {D : Type 0} (old new : Journal D) : Type 0 where
   pub gate : new.gate ≡ old.gate
   pub limit : new.limit ≡ old.limit
   pub is_open : new.is_open ≡ old.is_open
+
+-- what a crash may leave of a disk that told this, or this image
+abbrev pub IsImageOr : Option Contents → List ℕ → List ℕ → Type 0
+IsImageOr told image c = IsImage told c ⊎ (c ≡ image)
 
 -- an opening of the disk that holds this image: it stands for what the image stands for, or the image is foreign, or another refusal
 pub record Reopens (image : List ℕ) (told : Option Contents) (result : Result (Unit {0}) JournalBad) : Type 0 where

@@ -1,13 +1,14 @@
 //! Journals.
 
-ghost use Rattle.std.specs.Prelude.{get_or, ◌⊎◌, ◌≡◌, ◌+◌, ◌≤◌, ◌<◌, length, List, ℕ, Some, None, true, ◌∷◌, ◌++◌, [], OnOk, OnErr, IfOk, IfErr, IsOk, IsErr, IsErrOf, MatchResult};
+ghost use Rattle.std.specs.Prelude.{get_or, ◌⊎◌, ◌≡◌, ◌+◌, ◌*◌, ◌≤◌, ◌<◌, length, List, ℕ, Some, None, true, ◌∷◌, ◌++◌, [], OnOk, OnErr, IfOk, IfErr, IsOk, IsErr, IsErrOf, MatchResult};
 ghost use Rattle.ep_outside.specs.Disk.{Contents, IsImage, IsSure, KeepsMarks, settled};
 ghost use Rattle.ep_outside.specs.Moments.{LeavesOnly, LeavesFirst, MayLeaveFirst};
 ghost use Rattle.ep_outside.specs.Crash.{IsAsked, image_at};
 ghost use Rattle.ep_journal.specs.File.{records_of, stands_for, closed_gate, mended, is_foreign, StandsNear, IsBeforeOrAfter, IsByGate};
 ghost use Rattle.ep_journal.specs.Held.{Adds, Stands, HasCount, IsRecord, IsHalfway, IsForeign};
+ghost use Rattle.ep_journal.specs.Reads.{ReadsUpTo};
 ghost use Rattle.ep_journal.specs.Refusals.{OpenRefused, AppendRefused, ReadRefused};
-ghost use Rattle.ep_journal.specs.Journal.{disk_of, limit_of, count_of, length_of, length_with, IsReady, IsClosed, HasRoomFor, IsSameOver, Reopens};
+ghost use Rattle.ep_journal.specs.Journal.{disk_of, limit_of, count_of, length_of, length_with, IsReady, IsClosed, HasRoomFor, IsSameOver, IsImageOr, Reopens};
 ghost use Rattle.ep_journal.specs.Walking.{AreSpaced};
 
 use crate::framed::Framed;
@@ -48,6 +49,11 @@ impl<D: Disk> Journal<D> {
         ensures refused { IfErr result (λ refused. OpenRefused (IsForeign (D.told disk)) (IsSure D.is_steady D.stops_alone D.left disk) (D.failures disk) (D.failures refused.back) refused.why) }
         ensures foreign { (c : Contents) → D.told disk ≡ Some c → is_foreign c.seen ≡ true → IsErr result }
         ensures untouched { (c : Contents) → D.told disk ≡ Some c → IfErr result (λ refused. refused.why ≡ JournalBad.Foreign → D.told refused.back ≡ Some (settled c.seen)) }
+        // Five bytes are read for each record, and at most fourteen beside them.
+        ensures reads { IfOk result (λ journal. ReadsUpTo (D.bytes_read disk) (D.bytes_read (disk_of journal)) (5 * count_of journal + 14)) }
+        ensures reads_of_file { (c : Contents) → D.told disk ≡ Some c → MatchResult result
+            (λ journal. ReadsUpTo (D.bytes_read disk) (D.bytes_read (disk_of journal)) (5 * length (records_of c.seen) + 14))
+            (λ refused. ReadsUpTo (D.bytes_read disk) (D.bytes_read refused.back) (5 * length (records_of c.seen) + 14)) }
 
         ensures marks { MatchResult result (λ journal. KeepsMarks D.is_steady D.stops_alone D.left disk (disk_of journal)) (λ refused. KeepsMarks D.is_steady D.stops_alone D.left disk refused.back) }
         ensures later { MatchResult result (λ journal. D.failures disk ≤ D.failures (disk_of journal)) (λ refused. D.failures disk ≤ D.failures refused.back) }
@@ -80,6 +86,8 @@ impl<D: Disk> Journal<D> {
         ensures refused { IfErr result (OpenRefused (IsForeign (D.told (disk_of self.old))) (IsSure D.is_steady D.stops_alone D.left (disk_of self.old)) (D.failures (disk_of self.old)) (D.failures (disk_of self.new))) }
         ensures foreign { (c : Contents) → D.told (disk_of self.old) ≡ Some c → is_foreign c.seen ≡ true → IsErr result }
         ensures untouched { (c : Contents) → D.told (disk_of self.old) ≡ Some c → IsErrOf result JournalBad.Foreign → D.told (disk_of self.new) ≡ Some (settled c.seen) }
+        ensures reads { OnOk result (ReadsUpTo (D.bytes_read (disk_of self.old)) (D.bytes_read (disk_of self.new)) (5 * count_of self.new + 14)) }
+        ensures reads_of_file { (c : Contents) → D.told (disk_of self.old) ≡ Some c → ReadsUpTo (D.bytes_read (disk_of self.old)) (D.bytes_read (disk_of self.new)) (5 * length (records_of c.seen) + 14) }
 
         ensures marks { KeepsMarks D.is_steady D.stops_alone D.left (disk_of self.old) (disk_of self.new) }
         ensures later { D.failures (disk_of self.old) ≤ D.failures (disk_of self.new) }
@@ -236,6 +244,13 @@ impl<D: Crash> Journal<D> {
     pub fn restart(&mut self, alloc: Global) -> Result<(), JournalBad>
         ensures opens { (c : Contents) → D.told (disk_of self.old) ≡ Some c
             → (image : List ℕ) × IsAsked c (image_at (D.left (disk_of self.old)) (D.image (disk_of self.old))) image × Reopens image (D.told (disk_of self.new)) result }
+        // Until the first sync of the opening a crash leaves what it could have left before the call, or the
+        // image; from then on as an opening of the image.
+        ensures crash { (c : Contents) → D.told (disk_of self.old) ≡ Some c
+            → (image : List ℕ) × IsAsked c (image_at (D.left (disk_of self.old)) (D.image (disk_of self.old))) image × MatchResult result
+            (λ _. LeavesFirst D.moment D.since (disk_of self.old) (disk_of self.new) (IsImageOr (D.told (disk_of self.old)) image) (StandsNear image))
+            (λ _. MayLeaveFirst D.moment D.since (disk_of self.old) (disk_of self.new) (IsImageOr (D.told (disk_of self.old)) image) (StandsNear image)) }
+        ensures reads { OnOk result (ReadsUpTo (D.bytes_read (disk_of self.old)) (D.bytes_read (disk_of self.new)) (5 * count_of self.new + 14)) }
         ensures refused { IfErr result (OpenRefused (Unit {0}) ((D.is_steady (disk_of self.old) ≡ true) ⊎ (D.stops_alone (disk_of self.old) ≡ true)) (D.failures (disk_of self.old)) (D.failures (disk_of self.new))) }
         ensures ready { OnOk result (IsReady D.told self.new) }
         ensures closed { OnErr result (IsClosed self.new) }

@@ -1,12 +1,13 @@
 //! Opening: nothing is left behind the records but a gate 00.
 
-ghost use Rattle.std.specs.Prelude.{IsOk, false, MatchResult, ◌≡◌, ◌+◌, ◌-◌, ◌≤◌, ◌<◌, ◌^◌, ◌⊎◌, [], ◌∷◌, ◌++◌, length, drop, take, List, ℕ, Option, Some, None, Ok, true, OnOk, OnErr, IfOk, IfSome, IfNone, OnSome, is_none, IfErr, IsErr, IsErrOf, bytes_eq, IsTrue};
+ghost use Rattle.std.specs.Prelude.{IsOk, false, MatchResult, ◌≡◌, ◌+◌, ◌-◌, ◌*◌, ◌≤◌, ◌<◌, ◌^◌, ◌⊎◌, [], ◌∷◌, ◌++◌, length, drop, take, List, ℕ, Option, Some, None, Ok, true, OnOk, OnErr, IfOk, IfSome, IfNone, OnSome, is_none, IfErr, IsErr, IsErrOf, bytes_eq, IsTrue};
 ghost use Rattle.ep_outside.specs.Outside.{HasRisen};
 ghost use Rattle.ep_outside.specs.Disk.{HasRoom, KeepsMarks, IsSure, Contents, IsImage, Reaches, settled};
 ghost use Rattle.ep_outside.specs.Moments.{LeavesOnly, LeavesFirst, MayLeaveFirst};
 ghost use Rattle.ep_journal.specs.File.{StandsNear, mended, is_foreign, gates_of, records_of, closed_gate, header};
 ghost use Rattle.ep_journal.specs.Held.{IsHeld, IsForeign};
 ghost use Rattle.ep_journal.specs.Refusals.{OpenRefused};
+ghost use Rattle.ep_journal.specs.Reads.{ReadsUpTo};
 ghost use Rattle.ep_journal.specs.Repair.{zeroed, IsClosing, IsLongJournal};
 ghost use Rattle.ep_journal.specs.Walking.{AreSpaced};
 
@@ -28,6 +29,7 @@ fn close_gate<D: Disk>(disk: &mut D, gate: u64) -> Result<(), Failed>
     ensures room { ((D.room disk.old).calls ≤ (D.room disk.new).calls + 2) }
     ensures tells { D.told disk.old ≡ None → D.told disk.new ≡ None }
     ensures marks { KeepsMarks D.is_steady D.stops_alone D.left disk.old disk.new }
+    ensures reads { ReadsUpTo (D.bytes_read disk.old) (D.bytes_read disk.new) 1 }
     ensures later { D.failures disk.old ≤ D.failures disk.new }
     ensures failed { OnErr result (HasRisen (D.failures disk.old) (D.failures disk.new)) }
     ensures sure { D.stops_alone disk.old ≡ true → D.left disk.old ≡ None → IsOk result }
@@ -47,6 +49,7 @@ fn cut_rest<D: Disk>(disk: &mut D, gate: u64, total: u64) -> Result<(), Failed>
     ensures done { (file : List ℕ) → IsClosing file gate → total ≡ length file → D.told disk.old ≡ Some (settled (zeroed file)) → OnOk result (D.told disk.new ≡ Some (settled (mended file))) }
     ensures tells { D.told disk.old ≡ None → D.told disk.new ≡ None }
     ensures marks { KeepsMarks D.is_steady D.stops_alone D.left disk.old disk.new }
+    ensures reads { ReadsUpTo (D.bytes_read disk.old) (D.bytes_read disk.new) 0 }
     ensures later { D.failures disk.old ≤ D.failures disk.new }
     ensures failed { OnErr result (HasRisen (D.failures disk.old) (D.failures disk.new)) }
     ensures sure { D.stops_alone disk.old ≡ true → D.left disk.old ≡ None → IsOk result }
@@ -66,6 +69,7 @@ fn make_fresh<D: Disk>(disk: &mut D, total: u64) -> Result<(), Failed>
     ensures done { (file : List ℕ) → total ≡ length file → D.told disk.old ≡ Some (settled file) → OnOk result (D.told disk.new ≡ Some (settled (mended file))) }
     ensures tells { D.told disk.old ≡ None → D.told disk.new ≡ None }
     ensures marks { KeepsMarks D.is_steady D.stops_alone D.left disk.old disk.new }
+    ensures reads { ReadsUpTo (D.bytes_read disk.old) (D.bytes_read disk.new) 9 }
     ensures later { D.failures disk.old ≤ D.failures disk.new }
     ensures failed { OnErr result (HasRisen (D.failures disk.old) (D.failures disk.new)) }
     ensures sure { D.stops_alone disk.old ≡ true → D.left disk.old ≡ None → IsOk result }
@@ -77,6 +81,7 @@ fn make_fresh<D: Disk>(disk: &mut D, total: u64) -> Result<(), Failed>
 }
 
 /// Whether the file is a new journal.
+#[tactic(auto, using(crate::proofs::Counting::at_most))]
 fn is_fresh<D: Disk>(disk: &mut D, total: u64) -> Result<bool, Failed>
     requires { Reaches (D.told disk.old) total }
     ensures fresh { (file : List ℕ) → total ≡ length file → length file ≤ 9 → D.told disk.old ≡ Some (settled file) → IfOk result (λ fresh. fresh ≡ true → file ≡ mended file) }
@@ -84,6 +89,7 @@ fn is_fresh<D: Disk>(disk: &mut D, total: u64) -> Result<bool, Failed>
     ensures room { D.room disk.new ≡ D.room disk.old }
     ensures images { LeavesOnly D.moment D.since disk.old disk.new (IsImage (D.told disk.old)) }
     ensures marks { KeepsMarks D.is_steady D.stops_alone D.left disk.old disk.new }
+    ensures reads { ReadsUpTo (D.bytes_read disk.old) (D.bytes_read disk.new) 9 }
     ensures later { D.failures disk.old ≤ D.failures disk.new }
     ensures failed { OnErr result (HasRisen (D.failures disk.old) (D.failures disk.new)) }
     ensures sure { D.stops_alone disk.old ≡ true → D.left disk.old ≡ None → IsOk result }
@@ -99,6 +105,7 @@ fn is_fresh<D: Disk>(disk: &mut D, total: u64) -> Result<bool, Failed>
 const FRESH: [u8; 9] = [69, 80, 65, 68, 74, 78, 76, 49, 0];
 
 /// Whether the disk's file begins as a journal.
+#[tactic(auto, using(crate::proofs::Counting::at_most))]
 fn begins_well<D: Disk>(disk: &mut D, total: u64) -> Result<bool, Failed>
     requires inside { Reaches (D.told disk.old) total }
     requires long { 8 ≤ total }
@@ -107,6 +114,7 @@ fn begins_well<D: Disk>(disk: &mut D, total: u64) -> Result<bool, Failed>
     ensures room { D.room disk.new ≡ D.room disk.old }
     ensures images { LeavesOnly D.moment D.since disk.old disk.new (IsImage (D.told disk.old)) }
     ensures marks { KeepsMarks D.is_steady D.stops_alone D.left disk.old disk.new }
+    ensures reads { ReadsUpTo (D.bytes_read disk.old) (D.bytes_read disk.new) 8 }
     ensures later { D.failures disk.old ≤ D.failures disk.new }
     ensures failed { OnErr result (HasRisen (D.failures disk.old) (D.failures disk.new)) }
     ensures sure { D.stops_alone disk.old ≡ true → D.left disk.old ≡ None → IsOk result }
@@ -127,6 +135,8 @@ fn mend<D: Disk>(alloc: Global, disk: &mut D, total: u64) -> Result<Found, DiskB
     ensures spaced { IfOk result (λ found. AreSpaced found.gates.items found.gate) }
     ensures tells { D.told disk.old ≡ None → D.told disk.new ≡ None }
     ensures marks { KeepsMarks D.is_steady D.stops_alone D.left disk.old disk.new }
+    ensures reads { IfOk result (λ found. ReadsUpTo (D.bytes_read disk.old) (D.bytes_read disk.new) (5 * length found.gates.items + 6)) }
+    ensures reads_of_file { (file : List ℕ) → IsLongJournal file total → D.told disk.old ≡ Some (settled file) → ReadsUpTo (D.bytes_read disk.old) (D.bytes_read disk.new) (5 * length (records_of file) + 6) }
     ensures later { D.failures disk.old ≤ D.failures disk.new }
     ensures failed { IsErrOf result DiskBad.Failed → HasRisen (D.failures disk.old) (D.failures disk.new) }
     ensures sure { D.stops_alone disk.old ≡ true → D.left disk.old ≡ None → IsErrOf result DiskBad.Failed → ⊥ }
@@ -138,6 +148,7 @@ fn mend<D: Disk>(alloc: Global, disk: &mut D, total: u64) -> Result<Found, DiskB
 }
 
 /// Opens a disk that is in sync; `None` where its file is no journal.
+#[tactic(auto, using(crate::proofs::Counting::none_read))]
 fn find_journal<D: Disk>(alloc: Global, disk: &mut D) -> Result<Option<Found>, DiskBad>
     ensures crash { (file : List ℕ) → D.told disk.old ≡ Some (settled file) → LeavesOnly D.moment D.since disk.old disk.new (StandsNear file) }
     ensures done { (file : List ℕ) → D.told disk.old ≡ Some (settled file) → IfOk result (λ found. OnSome found (D.told disk.new ≡ Some (settled (mended file)))) }
@@ -147,6 +158,8 @@ fn find_journal<D: Disk>(alloc: Global, disk: &mut D) -> Result<Option<Found>, D
     ensures untouched { IfOk result (λ found. IfNone found (D.told disk.new ≡ D.told disk.old)) }
     ensures tells { D.told disk.old ≡ None → D.told disk.new ≡ None }
     ensures marks { KeepsMarks D.is_steady D.stops_alone D.left disk.old disk.new }
+    ensures reads { IfOk result (λ found. IfSome found (λ f. ReadsUpTo (D.bytes_read disk.old) (D.bytes_read disk.new) (5 * length f.gates.items + 14))) }
+    ensures reads_of_file { (file : List ℕ) → D.told disk.old ≡ Some (settled file) → ReadsUpTo (D.bytes_read disk.old) (D.bytes_read disk.new) (5 * length (records_of file) + 14) }
     ensures later { D.failures disk.old ≤ D.failures disk.new }
     ensures failed { IsErrOf result DiskBad.Failed → HasRisen (D.failures disk.old) (D.failures disk.new) }
     ensures sure { D.stops_alone disk.old ≡ true → D.left disk.old ≡ None → IsErrOf result DiskBad.Failed → ⊥ }
@@ -169,6 +182,7 @@ fn find_journal<D: Disk>(alloc: Global, disk: &mut D) -> Result<Option<Found>, D
 }
 
 /// Syncs a disk, and opens it.
+#[tactic(auto, using(crate::proofs::Counting::none_read))]
 pub fn open_disk<D: Disk>(alloc: Global, disk: &mut D) -> Result<Found, JournalBad>
     ensures crash { (c : Contents) → D.told disk.old ≡ Some c → MatchResult result
         (λ _. LeavesFirst D.moment D.since disk.old disk.new (IsImage (D.told disk.old)) (StandsNear c.seen))
@@ -180,6 +194,8 @@ pub fn open_disk<D: Disk>(alloc: Global, disk: &mut D) -> Result<Found, JournalB
     ensures refused { IfErr result (OpenRefused (IsForeign (D.told disk.old)) (IsSure D.is_steady D.stops_alone D.left disk.old) (D.failures disk.old) (D.failures disk.new)) }
     ensures untouched { (c : Contents) → D.told disk.old ≡ Some c → IsErrOf result JournalBad.Foreign → D.told disk.new ≡ Some (settled c.seen) }
     ensures marks { KeepsMarks D.is_steady D.stops_alone D.left disk.old disk.new }
+    ensures reads { IfOk result (λ found. ReadsUpTo (D.bytes_read disk.old) (D.bytes_read disk.new) (5 * length found.gates.items + 14)) }
+    ensures reads_of_file { (c : Contents) → D.told disk.old ≡ Some c → ReadsUpTo (D.bytes_read disk.old) (D.bytes_read disk.new) (5 * length (records_of c.seen) + 14) }
     ensures later { D.failures disk.old ≤ D.failures disk.new }
 {
     if disk.reserve(0).is_err() {

@@ -6,11 +6,13 @@ ghost use Rattle.ep_outside.specs.Images.{Torn, Front};
 ghost use Rattle.ep_outside.specs.Moments.{LeavesOnly};
 ghost use Rattle.ep_journal.specs.File.{records_of, stands_for, grown_file, IsByGate};
 ghost use Rattle.ep_journal.specs.Held.{IsHalfway};
+ghost use Rattle.ep_journal.specs.Reads.{ReadsUpTo};
 ghost use Rattle.ep_journal.specs.Repair.{IsStored};
 
 use ep_outside::{Disk, Failed};
 
 /// Writes a range and waits until it is on the disk.
+#[tactic(auto, using(crate::proofs::Counting::none_read))]
 pub fn put<D: Disk>(disk: &mut D, at: u64, bytes: &[u8]) -> Result<(), Failed>
     requires inside { Reaches (D.told disk.old) at }
     requires room { HasRoom (D.room disk.old) 2 (length bytes.now) }
@@ -20,6 +22,7 @@ pub fn put<D: Disk>(disk: &mut D, at: u64, bytes: &[u8]) -> Result<(), Failed>
     ensures tells { D.told disk.old ≡ None → D.told disk.new ≡ None }
     ensures room { ((D.room disk.old).calls ≤ (D.room disk.new).calls + 2) × ((D.room disk.old).bytes ≤ (D.room disk.new).bytes + length bytes.now) }
     ensures cause { HasCause (D.failures disk.old) (D.failures disk.new) (D.is_steady disk.old) (D.is_steady disk.new) result }
+    ensures reads { ReadsUpTo (D.bytes_read disk.old) (D.bytes_read disk.new) 0 }
     ensures marks { KeepsMarks D.is_steady D.stops_alone D.left disk.old disk.new }
     ensures sure { D.stops_alone disk.old ≡ true → D.left disk.old ≡ None → IsOk result }
     ensures stopped_early { (k : ℕ) → k < 2 → D.left disk.old ≡ Some k → IsErr result }
@@ -33,6 +36,7 @@ pub fn put<D: Disk>(disk: &mut D, at: u64, bytes: &[u8]) -> Result<(), Failed>
 }
 
 /// Shortens the file and waits until that is on the disk.
+#[tactic(auto, using(crate::proofs::Counting::none_read))]
 pub fn clip<D: Disk>(disk: &mut D, to: u64) -> Result<(), Failed>
     requires inside { Reaches (D.told disk.old) to }
     requires room { HasRoom (D.room disk.old) 2 0 }
@@ -40,6 +44,7 @@ pub fn clip<D: Disk>(disk: &mut D, to: u64) -> Result<(), Failed>
     ensures done { (s : List ℕ) → D.told disk.old ≡ Some (settled s) → OnOk result (D.told disk.new ≡ Some (settled (take to s))) }
     ensures tells { D.told disk.old ≡ None → D.told disk.new ≡ None }
     ensures cause { HasCause (D.failures disk.old) (D.failures disk.new) (D.is_steady disk.old) (D.is_steady disk.new) result }
+    ensures reads { ReadsUpTo (D.bytes_read disk.old) (D.bytes_read disk.new) 0 }
     ensures marks { KeepsMarks D.is_steady D.stops_alone D.left disk.old disk.new }
     ensures sure { D.stops_alone disk.old ≡ true → D.left disk.old ≡ None → IsOk result }
 {
@@ -48,12 +53,14 @@ pub fn clip<D: Disk>(disk: &mut D, to: u64) -> Result<(), Failed>
 }
 
 /// Waits until all that a read gives is on the disk.
+#[tactic(auto, using(crate::proofs::Counting::none_read))]
 pub fn settle<D: Disk>(disk: &mut D) -> Result<(), Failed>
     requires { HasRoom (D.room disk.old) 1 0 }
     ensures crash { LeavesOnly D.moment D.since disk.old disk.new (IsImage (D.told disk.old)) }
     ensures done { (c : Contents) → D.told disk.old ≡ Some c → OnOk result (D.told disk.new ≡ Some (settled c.seen)) }
     ensures tells { D.told disk.old ≡ None → D.told disk.new ≡ None }
     ensures cause { HasCause (D.failures disk.old) (D.failures disk.new) (D.is_steady disk.old) (D.is_steady disk.new) result }
+    ensures reads { ReadsUpTo (D.bytes_read disk.old) (D.bytes_read disk.new) 0 }
     ensures marks { KeepsMarks D.is_steady D.stops_alone D.left disk.old disk.new }
     ensures sure { D.stops_alone disk.old ≡ true → D.left disk.old ≡ None → IsOk result }
 {

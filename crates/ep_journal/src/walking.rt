@@ -1,9 +1,11 @@
 //! From gate to gate.
 
-ghost use Rattle.std.specs.Prelude.{◌≡◌, ◌+◌, ◌-◌, ◌≤◌, ◌<◌, ◌^◌, [], ◌∷◌, ◌++◌, length, drop, List, ℕ, Option, Some, None, OnOk, OnErr, IfOk, IfSome, IsErrOf, IsOk, true};
+ghost use Rattle.std.specs.Prelude.{◌≡◌, ◌+◌, ◌-◌, ◌*◌, ◌≤◌, ◌<◌, ◌^◌, [], ◌∷◌, ◌++◌, length, drop, List, ℕ, Option, Some, None, OnOk, OnErr, IfOk, IfSome, IsErrOf, IsOk, true};
 ghost use Rattle.ep_outside.specs.Outside.{HasRisen};
 ghost use Rattle.ep_outside.specs.Disk.{KeepsMarks, Contents, IsImage, Reaches};
 ghost use Rattle.ep_outside.specs.Moments.{LeavesOnly};
+ghost use Rattle.ep_journal.specs.File.{records_of};
+ghost use Rattle.ep_journal.specs.Reads.{ReadsUpTo};
 ghost use Rattle.ep_journal.specs.Walking.{AreSpaced, IsFound, SizeOn, ByteOn};
 
 use crate::head::size_of_head;
@@ -35,6 +37,7 @@ pub struct Found {
 }
 
 /// The length of the record behind the gate, on a disk of that length.
+#[tactic(auto, using(crate::proofs::Counting::at_most))]
 pub fn size_on<D: Disk>(disk: &mut D, gate: u64, total: u64) -> Result<Option<u64>, Failed>
     requires inside { Reaches (D.told disk.old) total }
     requires within { gate < total }
@@ -42,6 +45,7 @@ pub fn size_on<D: Disk>(disk: &mut D, gate: u64, total: u64) -> Result<Option<u6
     ensures whole { IfOk result (λ size. IfSome size (λ n. gate + (n + 5) < total)) }
     ensures same { D.told disk.new ≡ D.told disk.old }
     ensures room { D.room disk.new ≡ D.room disk.old }
+    ensures reads { ReadsUpTo (D.bytes_read disk.old) (D.bytes_read disk.new) 5 }
     ensures images { LeavesOnly D.moment D.since disk.old disk.new (IsImage (D.told disk.old)) }
     ensures marks { KeepsMarks D.is_steady D.stops_alone D.left disk.old disk.new }
     ensures later { D.failures disk.old ≤ D.failures disk.new }
@@ -66,6 +70,8 @@ pub fn find_gates<D: Disk>(alloc: Global, disk: &mut D, total: u64) -> Result<Fo
     ensures within { IfOk result (λ found. (8 ≤ found.gate) × (found.gate < total)) }
     ensures same { D.told disk.new ≡ D.told disk.old }
     ensures room { D.room disk.new ≡ D.room disk.old }
+    ensures reads { IfOk result (λ found. ReadsUpTo (D.bytes_read disk.old) (D.bytes_read disk.new) (5 * (length found.gates.items + 1))) }
+    ensures reads_of_file { (c : Contents) → D.told disk.old ≡ Some c → total ≡ length c.seen → ReadsUpTo (D.bytes_read disk.old) (D.bytes_read disk.new) (5 * (length (records_of c.seen) + 1)) }
     ensures images { LeavesOnly D.moment D.since disk.old disk.new (IsImage (D.told disk.old)) }
     ensures marks { KeepsMarks D.is_steady D.stops_alone D.left disk.old disk.new }
     ensures later { D.failures disk.old ≤ D.failures disk.new }
@@ -82,12 +88,14 @@ pub fn find_gates<D: Disk>(alloc: Global, disk: &mut D, total: u64) -> Result<Fo
 }
 
 /// One byte of the disk.
+#[tactic(auto, using(crate::proofs::Counting::at_most))]
 pub fn byte_on<D: Disk>(disk: &mut D, at: u64) -> Result<u8, Failed>
     requires fits { at + 1 < 2 ^ 64 }
     requires inside { Reaches (D.told disk.old) (at + 1) }
     ensures byte { IfOk result (λ byte. ByteOn (D.told disk.old) at byte) }
     ensures same { D.told disk.new ≡ D.told disk.old }
     ensures room { D.room disk.new ≡ D.room disk.old }
+    ensures reads { ReadsUpTo (D.bytes_read disk.old) (D.bytes_read disk.new) 1 }
     ensures images { LeavesOnly D.moment D.since disk.old disk.new (IsImage (D.told disk.old)) }
     ensures marks { KeepsMarks D.is_steady D.stops_alone D.left disk.old disk.new }
     ensures later { D.failures disk.old ≤ D.failures disk.new }

@@ -9,15 +9,15 @@ use Rattle.ep_outside.specs.declared.keeper.Pair.{Pair}
 use Rattle.ep_outside.specs.declared.keeper.Put.{Put}
 use Rattle.ep_outside.specs.Kept.{key_cmp, by_order, with, without, put_in, after, is_first, rises}
 
-and_left : (a b : Bool) → IsTrue (a && b) → IsTrue a
+pub and_left : (a b : Bool) → IsTrue (a && b) → IsTrue a
 and_left true b h = refl
 and_left false b h = h
 
-and_right : (a b : Bool) → IsTrue (a && b) → IsTrue b
+pub and_right : (a b : Bool) → IsTrue (a && b) → IsTrue b
 and_right true b h = h
 and_right false b h = absurd (true≢false (sym h))
 
-and_both : (a b : Bool) → IsTrue a → IsTrue b → IsTrue (a && b)
+pub and_both : (a b : Bool) → IsTrue a → IsTrue b → IsTrue (a && b)
 and_both true b h k = k
 and_both false b h k = h
 

@@ -1,5 +1,5 @@
 -- A disk: what a read gives, what isn't sure yet since the last sync, and what a crash may leave.
-use Rattle.std.specs.Prelude.{ℕ, ◌≡◌, ◌+◌, ◌<◌, ◌≤◌, ◌⊎◌, min, max, Bool, true, List, [], ◌∷◌, ◌++◌, length, take, drop, get_or, Option, Some, None, Result, Ok, Err, IsErr, OnErr, OnOk}
+use Rattle.std.specs.Prelude.{ℕ, ◌≡◌, ◌+◌, ◌-◌, ◌^◌, ◌<◌, ◌≤◌, ◌⊎◌, min, max, Bool, true, List, [], ◌∷◌, ◌++◌, length, take, drop, get_or, Option, Some, None, option_map, Result, Ok, Err, IsErr, OnErr, OnOk}
 use Rattle.ep_outside.specs.Outside.{HasRisen}
 use Rattle.ep_outside.specs.declared.source.Failed.{Failed}
 
@@ -113,6 +113,11 @@ pub record HasCause {T : Type 0} (before now : ℕ) (was is : Bool) (result : Re
   pub later : before ≤ now
   pub failed : OnErr result (HasRisen before now)
   pub steady : is ≡ was
+
+-- a read gave so many bytes more, or failed; a count of them stands still at the greatest `u64`
+abbrev pub GivesMore : {T : Type 0} → Option ℕ → Option ℕ → ℕ → Result T Failed → Type 0
+GivesMore before now n (Ok u) = now ≡ option_map (λ m. max m (min (m + n) (2 ^ 64 - 1))) before
+GivesMore before now n (Err e) = now ≡ before
 
 -- where a stop was asked for each device call counts, and where none is left it fails
 abbrev pub Stops : {T : Type 0} → Option ℕ → Option ℕ → Result T Failed → Type 0

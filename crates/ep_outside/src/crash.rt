@@ -19,6 +19,7 @@ pub trait Crash: Disk {
         ensures stop { Self.left self.new ≡ Some calls }
         ensures image { image self.new ≡ asked }
         ensures same { Self.told self.new ≡ Self.told self.old }
+        ensures bytes_read { Self.bytes_read self.new ≡ Self.bytes_read self.old }
         ensures time { Moves (Self.moment self.old) (Self.moment self.new) (Self.since self.old) (Self.since self.new) (Self.told self.new) }
         ensures room { Self.room self.new ≡ Self.room self.old }
         ensures failures { Self.failures self.new ≡ Self.failures self.old }
@@ -28,6 +29,7 @@ pub trait Crash: Disk {
     fn restart(&mut self)
         ensures restarts { Restarts (Self.told self.old) (Self.told self.new) (image_at (Self.left self.old) (image self.old)) }
         ensures stop { Self.left self.new ≡ None }
+        ensures bytes_read { Self.bytes_read self.new ≡ Self.bytes_read self.old }
         ensures time { Moves (Self.moment self.old) (Self.moment self.new) (Self.since self.old) (Self.since self.new) (Self.told self.new) }
         ensures failures { Self.failures self.new ≡ Self.failures self.old }
         ensures steady { Self.is_steady self.old ≡ true → Self.is_steady self.new ≡ true }

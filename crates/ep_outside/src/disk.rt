@@ -1,7 +1,7 @@
 //! Disks.
 
 ghost use Rattle.std.specs.Prelude.{◌≡◌, ◌+◌, ◌≤◌, ◌<◌, ◌^◌, ℕ, List, Bool, true, false, length, Option, Some, None, OnOk, OnErr, IfOk};
-ghost use Rattle.ep_outside.specs.Disk.{Contents, Room, HasRoom, Spends, HasCause, HasLength, Reaches, ReadsAt, Writes, Cuts, Syncs, Moves, IsImage, Stops, StopsAlone, ReadsAsLeft};
+ghost use Rattle.ep_outside.specs.Disk.{Contents, Room, HasRoom, Spends, HasCause, HasLength, Reaches, ReadsAt, Writes, Cuts, Syncs, Moves, IsImage, Stops, StopsAlone, ReadsAsLeft, GivesMore};
 
 use crate::source::Failed;
 use ep_units::NoMemory;
@@ -35,6 +35,9 @@ pub trait Disk {
     /// It tells that it fails in a stop alone.
     ghost stops_alone: { Self → Bool } = { λ _. false };
 
+    /// How many bytes its reads have given, where it counts them; the count stands still at the greatest `u64`.
+    ghost bytes_read: { Self → Option ℕ } = { λ _. None };
+
     /// How often it has failed; the count stands still at the greatest `u64`.
     fn faults(&self) -> u64
         ensures { result ≡ failures self.now };
@@ -44,6 +47,7 @@ pub trait Disk {
         ensures bound { IfOk result (λ n. n < 2 ^ 63) }
         ensures same { told self.new ≡ told self.old }
         ensures room { room self.new ≡ room self.old }
+        ensures bytes_read { bytes_read self.new ≡ bytes_read self.old }
         ensures time { Moves (moment self.old) (moment self.new) (since self.old) (since self.new) (told self.new) }
         ensures cause { HasCause (failures self.old) (failures self.new) (is_steady self.old) (is_steady self.new) result }
         ensures stops { Stops (left self.old) (left self.new) result }
@@ -55,6 +59,7 @@ pub trait Disk {
         ensures value { OnOk result (ReadsAt (told self.old) at into.new) }
         ensures same { told self.new ≡ told self.old }
         ensures room { room self.new ≡ room self.old }
+        ensures bytes_read { GivesMore (bytes_read self.old) (bytes_read self.new) (length into.new) result }
         ensures time { Moves (moment self.old) (moment self.new) (since self.old) (since self.new) (told self.new) }
         ensures cause { HasCause (failures self.old) (failures self.new) (is_steady self.old) (is_steady self.new) result }
         ensures stops { Stops (left self.old) (left self.new) result }
@@ -65,6 +70,7 @@ pub trait Disk {
         requires room { HasRoom (room self.old) 1 (length bytes.now) }
         ensures writes { Writes (told self.old) (told self.new) at bytes.now result }
         ensures room { Spends (room self.old) (room self.new) (length bytes.now) }
+        ensures bytes_read { bytes_read self.new ≡ bytes_read self.old }
         ensures time { Moves (moment self.old) (moment self.new) (since self.old) (since self.new) (told self.new) }
         ensures cause { HasCause (failures self.old) (failures self.new) (is_steady self.old) (is_steady self.new) result }
         ensures stops { Stops (left self.old) (left self.new) result }
@@ -76,6 +82,7 @@ pub trait Disk {
         requires room { HasRoom (room self.old) 1 0 }
         ensures cuts { Cuts (told self.old) (told self.new) to result }
         ensures room { Spends (room self.old) (room self.new) 0 }
+        ensures bytes_read { bytes_read self.new ≡ bytes_read self.old }
         ensures time { Moves (moment self.old) (moment self.new) (since self.old) (since self.new) (told self.new) }
         ensures cause { HasCause (failures self.old) (failures self.new) (is_steady self.old) (is_steady self.new) result }
         ensures stops { Stops (left self.old) (left self.new) result }
@@ -86,6 +93,7 @@ pub trait Disk {
         requires { HasRoom (room self.old) 1 0 }
         ensures syncs { Syncs (told self.old) (told self.new) result }
         ensures room { Spends (room self.old) (room self.new) 0 }
+        ensures bytes_read { bytes_read self.new ≡ bytes_read self.old }
         ensures time { Moves (moment self.old) (moment self.new) (since self.old) (since self.new) (told self.new) }
         ensures cause { HasCause (failures self.old) (failures self.new) (is_steady self.old) (is_steady self.new) result }
         ensures stops { Stops (left self.old) (left self.new) result }
@@ -97,6 +105,7 @@ pub trait Disk {
         ensures ok { OnOk result (HasRoom (room self.new) 4 bytes) }
         ensures err { OnErr result (room self.new ≡ room self.old) }
         ensures same { told self.new ≡ told self.old }
+        ensures bytes_read { bytes_read self.new ≡ bytes_read self.old }
         ensures time { Moves (moment self.old) (moment self.new) (since self.old) (since self.new) (told self.new) }
         ensures failures { failures self.new ≡ failures self.old }
         ensures steady { is_steady self.new ≡ is_steady self.old }

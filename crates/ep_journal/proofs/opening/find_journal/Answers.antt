@@ -2,6 +2,7 @@ use Rattle.std.proofs.Common.{◌≡◌, ◌∙◌, ap, arith, sym, rules, true,
 use Rattle.ep_outside.specs.Disk.{settled}
 use Rattle.ep_outside.proofs.Moments.{started, goes_on, weaker, joined}
 use Rattle.ep_journal.specs.File.{StandsNear, gates_of, end_of}
+use Rattle.ep_journal.proofs.Counting.{none_read}
 use Rattle.ep_journal.proofs.Repairing.{image_near, long_journal, short_size, mended_records, mended_fresh}
 use Rattle.ep_journal.proofs.opening.find_journal.Goals as goal
 
@@ -103,3 +104,21 @@ returns-clause-gates g c file told =
     let found = c.in_ok-mend.ensures.gates file j told_b in
     let e = sym (mended_records file c.in_ok-total.total j) in
     (found.0 ∙ ap (λ (rs : List (List ℕ)). gates_of 8 rs) e, found.1 ∙ ap (λ (rs : List (List ℕ)). end_of 8 rs) e)
+
+pub returns-in_err-mend-clause-reads_of_file : goal.returns-in_err-mend-clause-reads_of_file
+returns-in_err-mend-clause-reads_of_file g c file told =
+    let told_r = c.reserve.ensures.same ∙ told in
+    let told_l = c.length.ensures.same ∙ told_r in
+    let told_b = c.begins_well.ensures.same ∙ told_l in
+    let well : c.in_ok-begins_well.field-0 ≡ true = search rules in
+    let j = long_journal file c.in_ok-total.total _ told_r c.in_ok-total.ensures.value c.if-total-le9.false (sym (c.in_ok-begins_well.ensures.begins (settled file) told_l) ∙ well) in
+    omega (arith, none_read _ _ c.reserve.ensures.bytes_read, none_read _ _ c.length.ensures.bytes_read, c.begins_well.ensures.reads, c.mend.ensures.reads_of_file file j told_b)
+
+pub returns-clause-reads_of_file : goal.returns-clause-reads_of_file
+returns-clause-reads_of_file g c file told =
+    let told_r = c.reserve.ensures.same ∙ told in
+    let told_l = c.length.ensures.same ∙ told_r in
+    let told_b = c.begins_well.ensures.same ∙ told_l in
+    let well : c.in_ok-begins_well.field-0 ≡ true = search rules in
+    let j = long_journal file c.in_ok-total.total _ told_r c.in_ok-total.ensures.value c.if-total-le9.false (sym (c.in_ok-begins_well.ensures.begins (settled file) told_l) ∙ well) in
+    omega (arith, none_read _ _ c.reserve.ensures.bytes_read, none_read _ _ c.length.ensures.bytes_read, c.begins_well.ensures.reads, c.mend.ensures.reads_of_file file j told_b)

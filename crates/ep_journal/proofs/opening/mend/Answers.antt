@@ -1,4 +1,5 @@
-use Rattle.std.proofs.Common.{◌∙◌}
+use Rattle.std.proofs.Common.{◌∙◌, arith}
+use Rattle.ep_outside.specs.Disk.{settled}
 use Rattle.ep_outside.proofs.Moments.{weaker, joined}
 use Rattle.ep_journal.specs.File.{StandsNear}
 use Rattle.ep_journal.proofs.Repairing.{image_near, closing}
@@ -28,3 +29,15 @@ returns-clause-crash g c file j told =
     let found = weaker g.D.Disk.moment g.D.Disk.since _ _ _ (StandsNear file) (image_near file _ told) c.find_gates.ensures.images in
     let closed = joined g.D.Disk.moment g.D.Disk.since _ _ _ (StandsNear file) found (c.close_gate.ensures.crash file cl (c.find_gates.ensures.same ∙ told)) in
     joined g.D.Disk.moment g.D.Disk.since _ _ _ (StandsNear file) closed (c.cut_rest.ensures.crash file cl j.total_is (c.in_ok-close_gate.ensures.done file cl (c.find_gates.ensures.same ∙ told)))
+
+pub returns-in_err-found-clause-reads_of_file : goal.returns-in_err-found-clause-reads_of_file
+returns-in_err-found-clause-reads_of_file g c file j told = omega (arith, c.find_gates.ensures.reads_of_file (settled file) told j.total_is)
+
+pub returns-in_err-close_gate-clause-reads_of_file : goal.returns-in_err-close_gate-clause-reads_of_file
+returns-in_err-close_gate-clause-reads_of_file g c file j told = omega (arith, c.find_gates.ensures.reads_of_file (settled file) told j.total_is, c.close_gate.ensures.reads)
+
+pub returns-in_err-cut_rest-clause-reads_of_file : goal.returns-in_err-cut_rest-clause-reads_of_file
+returns-in_err-cut_rest-clause-reads_of_file g c file j told = omega (arith, c.find_gates.ensures.reads_of_file (settled file) told j.total_is, c.close_gate.ensures.reads, c.cut_rest.ensures.reads)
+
+pub returns-clause-reads_of_file : goal.returns-clause-reads_of_file
+returns-clause-reads_of_file g c file j told = omega (arith, c.find_gates.ensures.reads_of_file (settled file) told j.total_is, c.close_gate.ensures.reads, c.cut_rest.ensures.reads)

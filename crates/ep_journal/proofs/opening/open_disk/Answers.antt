@@ -1,7 +1,8 @@
-use Rattle.std.proofs.Common.{◌∙◌, inr, subst, sym, Option}
+use Rattle.std.proofs.Common.{◌∙◌, arith, inr, subst, sym, Option}
 use Rattle.ep_outside.specs.Disk.{Contents, IsImage}
 use Rattle.ep_outside.specs.Moments.{LeavesOnly}
 use Rattle.ep_outside.proofs.Moments.{started, goes_on, joined}
+use Rattle.ep_journal.proofs.Counting.{none_read}
 use Rattle.ep_journal.proofs.Repairing.{opens_held}
 use Rattle.ep_journal.proofs.opening.open_disk.Goals as goal
 
@@ -60,3 +61,15 @@ pub returns-in-Ok-Some-clause-native : goal.returns-in-Ok-Some-clause-native
 returns-in-Ok-Some-clause-native g c k told =
     let some = c.in-Ok-Some.field-0-is in
     sym (rw some at (c.in-Ok-Some.ensures.foreign k.seen (c.in-Ok.ensures.done k (c.reserve.ensures.same ∙ told))))
+
+pub returns-in-Ok-Some-clause-reads_of_file : goal.returns-in-Ok-Some-clause-reads_of_file
+returns-in-Ok-Some-clause-reads_of_file g c k told = omega (arith, none_read _ _ c.reserve.ensures.bytes_read, c.settle.ensures.reads, c.find_journal.ensures.reads_of_file k.seen (c.in-Ok.ensures.done k (c.reserve.ensures.same ∙ told)))
+
+pub returns-in-Ok-None-clause-reads_of_file : goal.returns-in-Ok-None-clause-reads_of_file
+returns-in-Ok-None-clause-reads_of_file g c k told = omega (arith, none_read _ _ c.reserve.ensures.bytes_read, c.settle.ensures.reads, c.find_journal.ensures.reads_of_file k.seen (c.in-Ok.ensures.done k (c.reserve.ensures.same ∙ told)))
+
+pub returns-in-Err-Failed-clause-reads_of_file : goal.returns-in-Err-Failed-clause-reads_of_file
+returns-in-Err-Failed-clause-reads_of_file g c k told = omega (arith, none_read _ _ c.reserve.ensures.bytes_read, c.settle.ensures.reads, c.find_journal.ensures.reads_of_file k.seen (c.in-Ok.ensures.done k (c.reserve.ensures.same ∙ told)))
+
+pub returns-in-Err-NoMemory-clause-reads_of_file : goal.returns-in-Err-NoMemory-clause-reads_of_file
+returns-in-Err-NoMemory-clause-reads_of_file g c k told = omega (arith, none_read _ _ c.reserve.ensures.bytes_read, c.settle.ensures.reads, c.find_journal.ensures.reads_of_file k.seen (c.in-Ok.ensures.done k (c.reserve.ensures.same ∙ told)))

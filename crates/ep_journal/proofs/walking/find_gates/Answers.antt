@@ -1,9 +1,10 @@
-use Rattle.std.proofs.Common.{◌∙◌, ◌+◌, ◌<◌, IfSome, subst, arith, refl, Option, ℕ}
+use Rattle.std.proofs.Common.{◌∙◌, ◌+◌, ◌<◌, ◌∷◌, [], IfSome, ap, length, length-append, subst, arith, refl, Option, ℕ}
 use Rattle.ep_outside.specs.Disk.{Contents, IsImage}
 use Rattle.ep_outside.specs.Moments.{LeavesOnly}
 use Rattle.ep_outside.proofs.Moments.{joined}
 use Rattle.ep_outside.proofs.Stops.{marks_on}
 use Rattle.ep_journal.specs.Walking.{SizeOn}
+use Rattle.ep_journal.proofs.Counting.{few_gates}
 use Rattle.ep_journal.proofs.Keeping.{spaced}
 use Rattle.ep_journal.proofs.Gates.{walk_goes_on, walk_ends}
 use Rattle.ep_journal.proofs.walking.find_gates.Goals as goal
@@ -25,6 +26,7 @@ loop-gates-preserved g c =
       spaced = rw c.in_ok-push.ensures.items (spaced c.loop-gates.gates.items c.loop-gates.gate next inv.spaced (omega arith));
       first = omega (arith, inv.first);
       inside = omega (arith, subst (λ (o : Option ℕ). IfSome o (λ n. c.loop-gates.gate + (n + 5) < c.args.total)) c.in-Some.is c.in_ok-size.ensures.whole);
+      reads = omega (arith, inv.reads, c.size_on.ensures.reads, ap length c.in_ok-push.ensures.items, length-append c.loop-gates.gates.items (c.loop-gates.gate ∷ []));
     }
 
 pub returns-clause-found : goal.returns-clause-found
@@ -48,3 +50,18 @@ pub returns-in_err-size-clause-sure : goal.returns-in_err-size-clause-sure
 returns-in_err-size-clause-sure g c alone none failed =
     let ok = c.in_err-size.ensures.sure (c.loop-gates.invariant.marks.alone ∙ alone) (c.loop-gates.invariant.marks.unstopped none) in
     absurd (cc)
+
+pub returns-clause-reads_of_file : goal.returns-clause-reads_of_file
+returns-clause-reads_of_file g c k told long =
+    let inv = c.loop-gates.invariant in
+    omega (arith, inv.reads, c.size_on.ensures.reads, few_gates _ k c.args.total c.loop-gates.gates.items c.loop-gates.gate told long inv.walks)
+
+pub returns-in_err-size-clause-reads_of_file : goal.returns-in_err-size-clause-reads_of_file
+returns-in_err-size-clause-reads_of_file g c k told long =
+    let inv = c.loop-gates.invariant in
+    omega (arith, inv.reads, c.size_on.ensures.reads, few_gates _ k c.args.total c.loop-gates.gates.items c.loop-gates.gate told long inv.walks)
+
+pub returns-in_err-push-clause-reads_of_file : goal.returns-in_err-push-clause-reads_of_file
+returns-in_err-push-clause-reads_of_file g c k told long =
+    let inv = c.loop-gates.invariant in
+    omega (arith, inv.reads, c.size_on.ensures.reads, few_gates _ k c.args.total c.loop-gates.gates.items c.loop-gates.gate told long inv.walks)

@@ -1,6 +1,7 @@
-use Rattle.std.proofs.Common.{◌≡◌, ◌-◌, ◌≤◌, ◌<◌}
+use Rattle.std.proofs.Common.{◌≡◌, ◌-◌, ◌*◌, ◌≤◌, ◌<◌, length}
 use Rattle.ep_outside.specs.Disk.{IsImage, KeepsMarks}
 use Rattle.ep_outside.specs.Moments.{LeavesOnly}
+use Rattle.ep_journal.specs.Reads.{ReadsUpTo}
 use Rattle.ep_journal.specs.Walking.{AreSpaced, Walks}
 use Rattle.ep_journal.proofs.walking.find_gates.Given as goal
 
@@ -15,6 +16,7 @@ invariant-loop-gates g l = let disk = g.D.Disk in record {
   spaced : AreSpaced l.gates.items l.gate;
   first : 8 ≤ l.gate;
   inside : l.gate < l.total;
+  reads : ReadsUpTo (disk.bytes_read l.fn.disk) (disk.bytes_read l.disk) (5 * length l.gates.items);
 }
 
 abbrev pub decreases-loop-gates : goal.decreases-loop-gates

@@ -1,0 +1,55 @@
+-- The names on a shelf in memory, with their files.
+use Rattle.std.specs.Prelude.{ℕ, Bool, true, ◌==◌, ◌&&◌, bytes_eq, if◌then◌else◌, List, [], ◌∷◌, length, Option, Some, None}
+use Rattle.std.specs.List.{list_all}
+use Rattle.ep_units.specs.Text.{text_cmp}
+use Rattle.ep_outside.specs.Disk.{Contents, settled}
+use Rattle.ep_outside.specs.Kept.{by_order}
+use Rattle.ep_outside.specs.Shelf.{with_name}
+use Rattle.ep_disk_mem.specs.declared.slots.Stored.{Stored}
+use Rattle.ep_disk_mem.specs.declared.slots.Slot.{Slot}
+use Rattle.ep_disk_mem.specs.declared.mem_file.MemFile.{MemFile}
+
+-- what is told of a file: its bytes, in sync, and nothing once it is opened
+abbrev pub told_file : Option Stored → Option Contents
+told_file None = None
+told_file (Some file) = Some (settled file.bytes.items)
+
+-- what is told of a name; a new one has an empty disk
+abbrev pub told_of : List Slot → List ℕ → Option Contents
+told_of [] name = Some (settled [])
+told_of (s ∷ ss) name = if bytes_eq name s.name then told_file s.file else told_of ss name
+
+abbrev pub names_of : List Slot → List (List ℕ)
+names_of [] = []
+names_of (s ∷ ss) = s.name ∷ names_of ss
+
+-- no device call of the file's disk is to fail
+abbrev pub is_sure : Option Stored → Bool
+is_sure None = true
+is_sure (Some file) = length file.fails.items == 0
+
+abbrev pub all_sure : List Slot → Bool
+all_sure [] = true
+all_sure (s ∷ ss) = is_sure s.file && all_sure ss
+
+-- the slots with this one in its place, in place of one of its name
+abbrev pub put_in : List Slot → Slot → List Slot
+put_in [] slot = slot ∷ []
+put_in (s ∷ ss) slot = by_order (text_cmp slot.name s.name) (slot ∷ s ∷ ss) (slot ∷ ss) (s ∷ put_in ss slot)
+
+abbrev pub slot_of : MemFile → Slot
+slot_of f = record { name = f.name; file = Some (record { bytes = f.bytes; fails = f.fails }) }
+
+-- what is told of a name on a shelf with these files, of which the first of a name counts
+abbrev pub told_in : List MemFile → List ℕ → Option Contents
+told_in [] name = Some (settled [])
+told_in (f ∷ fs) name = if bytes_eq name f.name then Some (settled f.bytes.items) else told_in fs name
+
+-- their names, by rising name
+abbrev pub names_in : List MemFile → List (List ℕ)
+names_in [] = []
+names_in (f ∷ fs) = with_name (names_in fs) f.name
+
+-- no device call of their disks is to fail
+abbrev pub are_sure : List MemFile → Bool
+are_sure files = list_all (λ f. length f.fails.items == 0) files

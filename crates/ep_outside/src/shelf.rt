@@ -1,0 +1,79 @@
+//! Shelves of disks.
+
+ghost use Rattle.std.specs.Prelude.{◌≡◌, ◌≢◌, ◌≤◌, ℕ, List, Bool, true, Option, None, length, option_map, IsTrue, IfOk, OnOk, OnErr, IsErrOf};
+ghost use Rattle.ep_outside.specs.Outside.{HasRisen};
+ghost use Rattle.ep_outside.specs.Disk.{Contents};
+ghost use Rattle.ep_outside.specs.Shelf.{AreTold, IsNew, Holds, IsEmpty, rises, with_name};
+
+use crate::disk::Disk;
+use ep_units::{NoMemory, PadId};
+use thiserror::Error;
+
+/// Why a shelf did not do what it was asked.
+#[derive(Clone, Copy, Debug, Error, PartialEq, Eq)]
+pub enum ShelfBad {
+    #[error("the shelf failed")]
+    Failed,
+    #[error("out of memory")]
+    NoMemory,
+}
+
+impl From<NoMemory> for ShelfBad {
+    ghost use Rattle.ep_outside.specs.declared.shelf.ShelfBad.TheVariants as bad;
+
+    ghost from_gives = { λ _ e. e ≡ bad.NoMemory };
+
+    fn from(_error: NoMemory) -> ShelfBad {
+        ShelfBad::NoMemory
+    }
+}
+
+/// Disks, each under the id of a pad.
+///
+/// A shelf tells what the disk of a name holds until that disk is opened; from then on the disk tells.
+pub trait Shelf {
+    type D: Disk + Drop;
+
+    /// The names of its disks, by rising name, where it tells.
+    ghost names: { Self → Option (List (List ℕ)) };
+
+    /// What the disk of a name holds, where it tells.
+    ghost told: { Self → List ℕ → Option Contents };
+
+    /// How often it has failed.
+    ghost failures: { Self → ℕ };
+
+    /// It tells that it never fails.
+    ghost is_steady: { Self → Bool };
+
+    /// How often it has failed; the count stands still at the greatest `u64`.
+    fn faults(&self) -> u64
+        ensures { result ≡ failures self.now };
+
+    /// The names of its disks, by rising name.
+    fn names(&mut self) -> Result<Vec<PadId>, ShelfBad>
+        ensures value { IfOk result (λ found. AreTold (names self.old) found.items) }
+        ensures sorted { IfOk result (λ found. IsTrue (rises found.items)) }
+        ensures names { names self.new ≡ names self.old }
+        ensures told { (name : List ℕ) → told self.new name ≡ told self.old name }
+        ensures later { failures self.old ≤ failures self.new }
+        ensures cause { IsErrOf result ShelfBad.Failed → HasRisen (failures self.old) (failures self.new) }
+        ensures steady { is_steady self.new ≡ is_steady self.old };
+
+    /// The disk of a name, which is empty where the name is new.
+    fn open(&mut self, name: &PadId) -> Result<Self::D, ShelfBad>
+        ensures holds { IfOk result (λ disk. Holds (told self.old name.now) (Self.D.told disk)) }
+        ensures empty { IfOk result (λ disk. IsNew (names self.old) name.now → IsEmpty (Self.D.told disk)) }
+        ensures opened { OnOk result (told self.new name.now ≡ None) }
+        ensures others { (other : List ℕ) → other ≢ name.now → told self.new other ≡ told self.old other }
+        ensures names { OnOk result (names self.new ≡ option_map (λ ns. with_name ns name.now) (names self.old)) }
+        ensures err { OnErr result ((names self.new ≡ names self.old) × (told self.new name.now ≡ told self.old name.now)) }
+        ensures no_faults { IfOk result (λ disk. Self.D.failures disk ≡ 0) }
+        ensures no_stop { IfOk result (λ disk. Self.D.left disk ≡ None) }
+        ensures disk_steady { IfOk result (λ disk. is_steady self.old ≡ true → Self.D.is_steady disk ≡ true) }
+        ensures later { failures self.old ≤ failures self.new }
+        ensures cause { IsErrOf result ShelfBad.Failed → HasRisen (failures self.old) (failures self.new) }
+        ensures steady { is_steady self.new ≡ is_steady self.old };
+
+    ghost never_fails: { (s : Self) → is_steady s ≡ true → failures s ≡ 0 };
+}
