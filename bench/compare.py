@@ -1,20 +1,28 @@
 #!/usr/bin/env python3
-"""Times ep_bench beside a JavaScript program that does the same work, and prints the ratios.
+"""Times ep_bench beside programs that do the same work, and prints the ratios.
 
-compare.py PROGRAM PEERS: PEERS is a folder with js-easysync/bench.js, which prints a line an item:
-name, operations per second, microseconds each, note, with tabs between.
+compare.py PROGRAM PEERS FLOOR: PEERS is a folder with js-easysync/bench.js. FLOOR is a program in plain Rust that does the
+least that an operation needs; it is given a folder that it may write in. Both print a line an item: name, operations per
+second, microseconds each, note, with tabs between.
 """
 
 import subprocess
 import sys
+import tempfile
 import time
 
-# name, word, units, count, items of the JavaScript program whose times are added
+# name, word, units, count, items of the JavaScript program whose times are added, the item of the plain Rust program
 ITEMS = [
-    ("read a small edit, 10,000 units", "read", 10_000, 300_000, ["10KB/parse", "10KB/checkRep"]),
-    ("read a small edit, 1,000,000 units", "read", 1_000_000, 300_000, ["1MB/parse", "1MB/checkRep"]),
-    ("print a small edit, 10,000 units", "print", 10_000, 300_000, []),
-    ("fill a pool of 100,000", "pool", 100_000, 1, []),
+    ("read a small edit, 10,000 units", "read", 10_000, 300_000, ["10KB/parse", "10KB/checkRep"], None),
+    ("read a small edit, 1,000,000 units", "read", 1_000_000, 300_000, ["1MB/parse", "1MB/checkRep"], None),
+    ("print a small edit, 10,000 units", "print", 10_000, 300_000, [], None),
+    ("fill a pool of 100,000", "pool", 100_000, 1, [], None),
+    ("fits, 10,000 units", "fits", 10_000, 100_000, [], None),
+    ("fits, 1,000,000 units", "fits", 1_000_000, 2_000, [], None),
+    ("apply, 10,000 units", "apply", 10_000, 200_000, ["10KB/one run/applyToAText"], "10KB/flat apply"),
+    ("apply, 10,000 units, runs of 50", "apply-runs", 10_000, 200_000, ["10KB/runs of 50/applyToAText"], "10KB/flat apply"),
+    ("apply, 1,000,000 units", "apply", 1_000_000, 5_000, ["1MB/one run/applyToAText"], "1MB/flat apply"),
+    ("apply, 1,000,000 units, runs of 50", "apply-runs", 1_000_000, 5_000, ["1MB/runs of 50/applyToAText"], "1MB/flat apply"),
 ]
 
 
@@ -28,24 +36,27 @@ def seconds(program, word, units, count):
     return best
 
 
-def javascript(peers):
-    lines = subprocess.run(
-        ["node", f"{peers}/js-easysync/bench.js", "0.5"], check=True, capture_output=True, text=True
-    ).stdout.splitlines()
+def microseconds(command):
+    """The microseconds of each item of a program, by its name."""
+    lines = subprocess.run(command, check=True, capture_output=True, text=True).stdout.splitlines()
     parts = [line.split("\t") for line in lines if "\t" in line and not line.startswith("#")]
     return {part[0]: float(part[2]) for part in parts if len(part) > 2}
 
 
 def main():
-    program, peers = sys.argv[1:3]
-    theirs = javascript(peers)
-    for name, word, units, count, items in ITEMS:
+    program, peers, floor_program = sys.argv[1:4]
+    theirs = microseconds(["node", f"{peers}/js-easysync/bench.js", "0.5"])
+    with tempfile.TemporaryDirectory() as folder:
+        least = microseconds([floor_program, folder])
+    for name, word, units, count, items, floor in ITEMS:
         spent = seconds(program, word, units, count) - seconds(program, word, units, 0)
         ours = spent / count * 1e6
         line = f"{name}: {ours:.3f} us"
         if items:
             other = sum(theirs[item] for item in items)
             line += f"; JavaScript {other:.3f} us, {other / ours:.1f} times"
+        if floor in least:
+            line += f"; plain Rust {least[floor]:.3f} us, we take {ours / least[floor]:.2f} times"
         print(line)
 
 

@@ -1,10 +1,15 @@
 //! Generated documents and small edits of them.
 
+ghost use Rattle.std.specs.Prelude.{◌≤◌};
+
 use crate::draws::Draws;
 use ep_units::{NoMemory, Units, write36};
 use std::alloc::Global;
 
 const NEWLINE: u16 = 10;
+
+/// How many attributes the stretches of a document have in turn.
+pub const AUTHORS: usize = 8;
 
 /// A lower-case letter.
 fn letter(draws: &mut Draws) -> u16 {
@@ -33,21 +38,48 @@ fn last_line(text: &[u16]) -> usize {
     }
 }
 
+/// The sign of an attribute by its number.
+fn write_attr(attr: Option<usize>, out: &mut Units) -> Result<(), NoMemory> {
+    if let Some(number) = attr {
+        out.push(u16::from(b'*'))?;
+        write36(number as u64, out)?;
+    }
+    Ok(())
+}
+
 /// An operation of changeset text on a stretch of a document, as its whole lines and its rest.
-fn write_stretch(sign: u8, stretch: &[u16], out: &mut Units) -> Result<(), NoMemory> {
+fn write_stretch(
+    attr: Option<usize>,
+    sign: u8,
+    stretch: &[u16],
+    out: &mut Units,
+) -> Result<(), NoMemory> {
     let whole = last_line(stretch).min(stretch.len());
     let lines = stretch.iter().filter(|unit| **unit == NEWLINE).count();
     if whole > 0 {
+        write_attr(attr, out)?;
         out.push(u16::from(b'|'))?;
         write36(lines as u64, out)?;
         out.push(u16::from(sign))?;
         write36(whole as u64, out)?;
     }
     if whole < stretch.len() {
+        write_attr(attr, out)?;
         out.push(u16::from(sign))?;
         write36((stretch.len() - whole) as u64, out)?;
     }
     Ok(())
+}
+
+/// The operations that insert a text, of which each stretch of so many units has one of eight attributes in turn.
+pub fn attribs(alloc: Global, text: &[u16], run: usize) -> Result<Units, NoMemory>
+    requires { 1 ≤ run }
+{
+    let mut out = Units::new(alloc);
+    for (i, stretch) in text.chunks(run).enumerate() {
+        write_stretch(Some(i % AUTHORS), b'+', stretch, &mut out)?;
+    }
+    Ok(out)
 }
 
 fn write_ascii(text: &str, out: &mut Units) -> Result<(), NoMemory> {
@@ -70,7 +102,7 @@ pub fn edit(alloc: Global, doc: &[u16], draws: &mut Draws) -> Result<Units, NoMe
     if draws.pick(4) > 0 {
         write_ascii(">", &mut out)?;
         write36(count as u64, &mut out)?;
-        write_stretch(b'=', &doc[..at], &mut out)?;
+        write_stretch(None, b'=', &doc[..at], &mut out)?;
         write_ascii("*0+", &mut out)?;
         write36(count as u64, &mut out)?;
         write_ascii("$", &mut out)?;
@@ -83,8 +115,8 @@ pub fn edit(alloc: Global, doc: &[u16], draws: &mut Draws) -> Result<Units, NoMe
         let gone = &gone[..count.min(gone.len())];
         write_ascii("<", &mut out)?;
         write36(gone.len() as u64, &mut out)?;
-        write_stretch(b'=', &doc[..at], &mut out)?;
-        write_stretch(b'-', gone, &mut out)?;
+        write_stretch(None, b'=', &doc[..at], &mut out)?;
+        write_stretch(None, b'-', gone, &mut out)?;
         write_ascii("$", &mut out)?;
     }
     Ok(out)

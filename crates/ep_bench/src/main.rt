@@ -3,13 +3,14 @@
 
 mod data;
 mod draws;
+mod journal;
 mod work;
 
 use anyhow::{Context, Result, anyhow};
 use std::env;
 use work::Work;
 
-const USAGE: &str = "usage: ep_bench read|print|pool UNITS COUNT";
+const USAGE: &str = "usage: ep_bench read|print|pool|fits|apply|apply-runs UNITS COUNT";
 
 fn checksum(rt: &HostRuntime) -> Result<u64> {
     let mut words = env::args(rt)?.skip(1);
@@ -23,6 +24,9 @@ fn checksum(rt: &HostRuntime) -> Result<u64> {
 }
 
 fn main(rt: HostRuntime) -> Result<()> {
+    if journal::run(&rt)? {
+        return Ok(());
+    }
     let sum = checksum(&rt)?;
     println!(rt; "{sum}")?;
     Ok(())

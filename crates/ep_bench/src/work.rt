@@ -1,17 +1,28 @@
 //! The operations that are measured. Each answers a checksum, the same at each run.
 
-use crate::data::{document, edit};
+ghost use Rattle.std.specs.Prelude.{IfOk};
+ghost use Rattle.std.specs.List.{All};
+ghost use Rattle.ep_cs.specs.Fits.{Fits};
+
+use crate::data::{AUTHORS, attribs, document, edit};
 use crate::draws::Draws;
 use anyhow::{Result, anyhow};
+use ep_apply::{Doc, apply, fits};
 use ep_attr::Attr;
 use ep_cs::Change;
-use ep_csread::{for_wire, read};
+use ep_csread::{for_wire, read, read_attribs};
 use ep_pool::Pool;
 use ep_units::Units;
 use std::alloc::Global;
 
 /// How many edits are generated; they are gone through in turn.
 const EDITS: usize = 512;
+
+/// How many are generated of a document that they are made to.
+const DOC_EDITS: usize = 64;
+
+/// How many units have one attribute in a document of runs.
+const RUN: usize = 50;
 
 /// An operation that can be measured.
 #[derive(Clone, Copy, Debug, PartialEq, Eq)]
@@ -22,6 +33,12 @@ pub enum Work {
     Print,
     /// A pool is filled with as many attributes as there are units.
     Pool,
+    /// Small edits are tried on a document with one attribute.
+    Fits,
+    /// Small edits are made to a document with one attribute.
+    Apply,
+    /// Small edits are made to a document with another attribute each 50 units.
+    ApplyRuns,
 }
 
 impl Work {
@@ -30,6 +47,9 @@ impl Work {
             "read" => Some(Work::Read),
             "print" => Some(Work::Print),
             "pool" => Some(Work::Pool),
+            "fits" => Some(Work::Fits),
+            "apply" => Some(Work::Apply),
+            "apply-runs" => Some(Work::ApplyRuns),
             _ => None,
         }
     }
@@ -39,6 +59,9 @@ impl Work {
             Work::Read => read_edits(alloc, units, count),
             Work::Print => print_edits(alloc, units, count),
             Work::Pool => fill_pools(alloc, units, count),
+            Work::Fits => try_edits(alloc, units, count),
+            Work::Apply => apply_edits(alloc, units, units as usize, count),
+            Work::ApplyRuns => apply_edits(alloc, units, RUN, count),
         }
     }
 }
@@ -50,9 +73,13 @@ fn attr(alloc: Global, key: &str, value: &str) -> Result<Attr> {
     })
 }
 
-fn one_author(alloc: Global) -> Result<Pool> {
+/// A pool of so many authors.
+fn authors(alloc: Global, count: usize) -> Result<Pool> {
     let mut pool = Pool::new(alloc);
-    put(&mut pool, attr(alloc, "author", "a.0")?)?;
+    for i in 0..count {
+        let value = format!(in alloc; "a.{i}")?;
+        put(&mut pool, attr(alloc, "author", &value)?)?;
+    }
     Ok(pool)
 }
 
@@ -82,7 +109,7 @@ fn read_one(alloc: Global, text: &Units, pool: &Pool) -> Result<Change> {
 }
 
 fn read_edits(alloc: Global, units: u32, count: u32) -> Result<u64> {
-    let pool = one_author(alloc)?;
+    let pool = authors(alloc, 1)?;
     let edits = edits(alloc, units)?;
     let mut sum: u64 = 0;
     for (_, text) in (0..count).zip(edits.iter().cycle()) {
@@ -93,7 +120,7 @@ fn read_edits(alloc: Global, units: u32, count: u32) -> Result<u64> {
 }
 
 fn print_edits(alloc: Global, units: u32, count: u32) -> Result<u64> {
-    let pool = one_author(alloc)?;
+    let pool = authors(alloc, 1)?;
     let mut changes = Vec::new(alloc);
     for text in &edits(alloc, units)? {
         changes.push(read_one(alloc, text, &pool)?)?;
@@ -114,6 +141,67 @@ fn fill_pools(alloc: Global, units: u32, count: u32) -> Result<u64> {
             let value = format!(in alloc; "{i}")?;
             let number = put(&mut pool, attr(alloc, "author", &value)?)?;
             sum = sum.wrapping_add(u64::from(number));
+        }
+    }
+    Ok(sum)
+}
+
+/// The document of a text, with another attribute for each stretch of so many units.
+fn doc(alloc: Global, text: &Units, pool: &Pool, run: usize) -> Result<Doc> {
+    if !text.well_formed() {
+        return Err(anyhow!("half of a pair stands alone"));
+    }
+    let attribs = attribs(alloc, text.as_slice(), run.max(1))?;
+    let change = read_attribs(alloc, text, &attribs, pool)?;
+    let empty = Doc::empty(alloc);
+    match fits(&empty, &change) {
+        Ok(()) => Ok(apply(alloc, &empty, &change)?),
+        Err(_) => Err(anyhow!("the text is too long")),
+    }
+}
+
+/// Small edits of a document, which fit it.
+fn fitting_edits(alloc: Global, doc: &Doc, pool: &Pool, draws: &mut Draws) -> Result<Vec<Change>>
+    ensures { IfOk result (λ changes. All (λ change. Fits change doc.now) changes.items) }
+{
+    let mut changes = Vec::new(alloc);
+    for _ in 0..DOC_EDITS {
+        let text = edit(alloc, doc.text().as_slice(), draws)?;
+        let change = read_one(alloc, &text, pool)?;
+        if fits(doc, &change).is_err() {
+            return Err(anyhow!("an edit doesn't fit"));
+        }
+        changes.push(change)?;
+    }
+    Ok(changes)
+}
+
+fn try_edits(alloc: Global, units: u32, count: u32) -> Result<u64> {
+    let mut draws = Draws::new(7);
+    let pool = authors(alloc, AUTHORS)?;
+    let text = document(alloc, units as usize, &mut draws)?;
+    let doc = doc(alloc, &text, &pool, text.len())?;
+    let changes = fitting_edits(alloc, &doc, &pool, &mut draws)?;
+    let mut sum: u64 = 0;
+    for (_, change) in (0..count).zip(changes.iter().cycle()) {
+        if fits(&doc, change).is_ok() {
+            sum = sum.wrapping_add(1);
+        }
+    }
+    Ok(sum)
+}
+
+fn apply_edits(alloc: Global, units: u32, run: usize, count: u32) -> Result<u64> {
+    let mut draws = Draws::new(7);
+    let pool = authors(alloc, AUTHORS)?;
+    let text = document(alloc, units as usize, &mut draws)?;
+    let doc = doc(alloc, &text, &pool, run)?;
+    let changes = fitting_edits(alloc, &doc, &pool, &mut draws)?;
+    let mut sum: u64 = 0;
+    for i in 0..count as usize {
+        if let Some(change) = changes.get(i % DOC_EDITS) {
+            let after = apply(alloc, &doc, change)?;
+            sum = sum.wrapping_add(u64::from(after.len()));
         }
     }
     Ok(sum)
