@@ -23,7 +23,18 @@ ITEMS = [
     ("apply, 10,000 units, runs of 50", "apply-runs", 10_000, 200_000, ["10KB/runs of 50/applyToAText"], "10KB/flat apply"),
     ("apply, 1,000,000 units", "apply", 1_000_000, 5_000, ["1MB/one run/applyToAText"], "1MB/flat apply"),
     ("apply, 1,000,000 units, runs of 50", "apply-runs", 1_000_000, 5_000, ["1MB/runs of 50/applyToAText"], "1MB/flat apply"),
+    ("compose two small edits, 1,000 units", "compose", 1_000, 300_000, [], "compose"),
+    ("compose two small edits, 10,000 units", "compose", 10_000, 300_000, ["10KB/compose"], "compose"),
+    ("compose two small edits, 1,000,000 units", "compose", 1_000_000, 300_000, ["1MB/compose"], "compose"),
+    ("follow a small edit, 1,000 units", "follow", 1_000, 300_000, [], "follow"),
+    ("follow a small edit, 10,000 units", "follow", 10_000, 300_000, ["10KB/follow"], "follow"),
+    ("follow a small edit, 1,000,000 units", "follow", 1_000_000, 300_000, ["1MB/follow"], "follow"),
+    ("rebase through 1,000 revisions, 10,000 units", "rebase", 10_000, 1_000, ["rebase1000"], "rebase1000"),
+    ("slide 10,000 letters by 100, 10,000 units, each letter", "slide", 10_000, 20, ["compose10000/fold"], "compose10000/fold"),
 ]
+
+# how many of the single operations that the others time there are in one of ours
+PARTS = {"slide": 9_999}
 
 
 def seconds(program, word, units, count):
@@ -50,7 +61,7 @@ def main():
         least = microseconds([floor_program, folder])
     for name, word, units, count, items, floor in ITEMS:
         spent = seconds(program, word, units, count) - seconds(program, word, units, 0)
-        ours = spent / count * 1e6
+        ours = spent / count / PARTS.get(word, 1) * 1e6
         line = f"{name}: {ours:.3f} us"
         if items:
             other = sum(theirs[item] for item in items)

@@ -20,14 +20,14 @@ use Rattle.ep_cs.proofs.Canonical.{times, settle-inserts, begins_no_drop, not_tr
 use Rattle.ep_apply.specs.Fitting.{first_cut, first_end, ends_high}
 
 -- a stretch of places with one fate, which go on into one another
-abbrev step_end : ℕ → ℕ → Bool → Bool → Option ℕ → Option ℕ
+abbrev pub step_end : ℕ → ℕ → Bool → Bool → Option ℕ → Option ℕ
 step_end at n high on later = if high && not on then Some (at + n) else later
 
 one_more : (at : ℕ) (u : ℕ) (on : Bool) (later : Option ℕ) → on ≡ true → (if is_high u && not on then Some (at + 1) else later) ≡ later
 one_more at u true later e = elim (is_high u) as (λ h. (if h && false then Some (at + 1) else later) ≡ later) [ true ↦ refl | false ↦ refl ]
 one_more at u false later e = absurd cc
 
-keeps_end : (n at : ℕ) (m : AttrMap) (w : List Cell) (t : List Step) (us : Text) → suc n ≤ length us
+pub keeps_end : (n at : ℕ) (m : AttrMap) (w : List Cell) (t : List Step) (us : Text) → suc n ≤ length us
     → first_cut at (settle w (times (suc n) (Keep m) ++ t)).places us ≡ step_end at (suc n) (ends_high (take (suc n) us)) (goes_on (Keep m) (settle [] t).places) (first_cut (at + suc n) (settle [] t).places (drop (suc n) us))
 keeps_end n at m w t [] h = absurd (omega (arith, h))
 keeps_end zero at m w t (u ∷ us) h = refl
@@ -37,7 +37,7 @@ keeps_end (suc n) at m w t (u ∷ (v ∷ us)) h =
     one_more at u (same_map m m) _ (same_map_itself m) ∙ keeps_end n (at + 1) m [] t (v ∷ us) (omega (arith, h))
     ∙ ap (λ (k : ℕ). if ends_high (v ∷ take n us) && not (goes_on (Keep m) (settle [] t).places) then Some k else first_cut k (settle [] t).places (drop n us)) e
 
-drops_end : (n at : ℕ) (w : List Cell) (t : List Step) (us : Text) → suc n ≤ length us
+pub drops_end : (n at : ℕ) (w : List Cell) (t : List Step) (us : Text) → suc n ≤ length us
     → first_cut at (settle w (times (suc n) Drop ++ t)).places us ≡ step_end at (suc n) (ends_high (take (suc n) us)) (goes_on Drop (settle w t).places) (first_cut (at + suc n) (settle w t).places (drop (suc n) us))
 drops_end n at w t [] h = absurd (omega (arith, h))
 drops_end zero at w t (u ∷ us) h = refl

@@ -3,5 +3,6 @@ pub mod Walk
 pub mod Ends
 pub mod Refusals
 pub mod Inserted
-pub mod Stays
+pub mod Again
 pub mod Copying
+pub mod Documents

@@ -1,9 +1,11 @@
 -- What the parts of a document, and one that is made, stand for.
-use Rattle.std.specs.Prelude.{◌≡◌, ◌<◌, ◌^◌, length}
+use Rattle.std.specs.Prelude.{◌≡◌, ◌<◌, ◌^◌, List, length}
+use Rattle.ep_cs.specs.Doc.{Cell}
 use Rattle.ep_apply.specs.Made.{Parted, Made}
 use Rattle.ep_apply.specs.Spans.{cells_of, all_units, AreSpans, left_of, left_units, AreLeft}
 use Rattle.ep_apply.specs.declared.parts.Parts.TheInside as parts
 use Rattle.ep_apply.specs.declared.making.Making.TheInside as making
+use Rattle.ep_apply.specs.declared.reading.Reading.TheInside as reading
 
 abbrev pub parted : parts.Inside → Parted
 parted p = record { maps = p.maps.items; cells = cells_of p.maps.items p.spans.items p.text }
@@ -20,3 +22,11 @@ made_of m = record { maps = m.made.maps; done = m.made.cells; rest = left_of m.m
 pub record IsMade (m : making.Inside) : Type 0 where
   pub spans : AreLeft (length m.made.maps) m.spans.now m.left
   pub whole : left_units m.spans.now m.left ≡ length m.text.now
+
+-- the cells that are left to read
+abbrev pub read_of : reading.Inside → List Cell
+read_of r = left_of r.maps.now r.spans.now r.left r.text.now
+
+pub record IsRead (r : reading.Inside) : Type 0 where
+  pub spans : AreLeft (length r.maps.now) r.spans.now r.left
+  pub whole : left_units r.spans.now r.left ≡ length r.text.now

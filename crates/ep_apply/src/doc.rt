@@ -9,6 +9,7 @@ use crate::copied::copied;
 use crate::making::Making;
 use crate::maps::copy_maps;
 use crate::parts::Parts;
+use crate::reading::Reading;
 use crate::span::first_units;
 use ep_attr::AttrMap;
 use ep_cs::{Builder, Change};
@@ -19,7 +20,7 @@ use std::marker::Model;
 /// How many maps may have a number in vain.
 const SPARE: usize = 64;
 
-/// Attributed text.
+/// Attributed text: no half of a pair stands alone, the halves of a pair have equal maps, and no map has an empty value.
 #[derive(Drop)]
 pub struct Doc {
     pub(crate) parts: Parts,
@@ -35,7 +36,11 @@ impl Model for Doc {
 
     ghost coded = { coded_list coded_cell };
 
+    ghost use Rattle.ep_apply.specs.Documents.{IsDocument};
+
     ghost view = { λ d. d.parts.cells };
+
+    ghost invariant = { λ d. IsDocument d.parts.cells };
 }
 
 impl Doc {
@@ -82,7 +87,6 @@ impl Doc {
 
     /// The change on no units that inserts the document.
     pub fn as_insert(&self, alloc: Global) -> Result<Change, NoMemory>
-        requires { IsDocument self.now }
         ensures { IfOk result (λ change. change ≡ insertion self.now) }
     {
         let mut builder = Builder::new(alloc, 0);
@@ -95,10 +99,25 @@ impl Doc {
         self.parts.maps.len() / 2 > self.parts.spans.len().saturating_add(SPARE)
     }
 
+    /// All of it, to be read from its first unit to its last.
+    pub fn reading(&self) -> Reading<'_>
+        ensures all { result ≡ self.now }
+        ensures document { IsDocument self.now }
+    {
+        let spans = self.parts.spans.as_slice();
+        Reading {
+            maps: self.parts.maps.as_slice(),
+            spans,
+            left: first_units(spans),
+            text: self.parts.text.as_slice(),
+        }
+    }
+
     /// Nothing made of it yet, with room for what a change makes.
     pub(crate) fn making(&self, alloc: Global, change: &Change) -> Result<Making<'_>, NoMemory>
         ensures done { IfOk result (λ m. m.done ≡ []) }
         ensures rest { IfOk result (λ m. m.rest ≡ self.now) }
+        ensures document { IsDocument self.now }
     {
         let spans = self.parts.spans.as_slice();
         let room = change

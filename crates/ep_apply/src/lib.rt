@@ -9,9 +9,11 @@ mod laws;
 mod making;
 mod maps;
 mod parts;
+mod reading;
 mod span;
 
 pub use applying::apply;
 pub use doc::Doc;
 pub use fitting::fits;
 pub use laws::{documents_stay, inserted_again};
+pub use reading::{Reading, Stretch};

@@ -10,6 +10,8 @@ use Rattle.std.specs.FinMap.Entries.{find, is_sorted, below_all, find-put, is_so
 use Rattle.std.proofs.lemmas.List.Folds.{list_any-append}
 use Rattle.ep_units.specs.Text.{Text, text_cmp, text_eq, text_le}
 use Rattle.ep_attr.proofs.Keys.{first, second, find_below}
+use Rattle.ep_attr.specs.Attrs.{map_of_pairs}
+use Rattle.ep_attr.specs.Codes.{same_pairs_map}
 use Rattle.ep_attr.specs.AttrMap.{Pair, AttrMap, none, get, checked, insert, with_pairs, of_pairs, insert_some, map_of, keys, pointwise, value_after, later_value, earlier_value, value_left, after, join, early, rest}
 
 -- texts that tie are equal
@@ -27,6 +29,10 @@ exact_test a b e = exact_text a b (tied (text_cmp a b) e)
 pub pairs-checked : (ps : List Pair) (b : Bool) (e : is_sorted text_cmp ps ≡ b) (m : AttrMap) → T b → (checked ps b e m).pairs ≡ ps
 pairs-checked ps true e m h = refl
 pairs-checked ps false e m h = absurd h
+
+-- the map of a map's own pairs
+pub map_of_own_pairs : (m : AttrMap) → map_of_pairs m.pairs ≡ m
+map_of_own_pairs m = same_pairs_map (map_of_pairs m.pairs) m (pairs-checked m.pairs _ refl none m.sorted)
 
 pub get-insert : (m : AttrMap) (k v q : Text) → get (insert m k v) q ≡ cond (eq_by_cmp text_cmp q k) (Some v) (get m q)
 get-insert m k v q =

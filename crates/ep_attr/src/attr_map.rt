@@ -1,10 +1,10 @@
 //! An attribute map as its pairs.
 
-ghost use Rattle.std.specs.Prelude.{◌≡◌, length, option_map, IfOk};
-ghost use Rattle.std.specs.FinMap.Entries.{find};
+ghost use Rattle.std.specs.Prelude.{◌≡◌, T, length, option_map, IfOk};
+ghost use Rattle.std.specs.FinMap.Entries.{find, is_sorted};
 ghost use Rattle.ep_units.specs.Text.{text_cmp};
 ghost use Rattle.ep_attr.specs.AttrMap.{none, get, insert, of_pairs, pointwise, after, join, rest, has_first};
-ghost use Rattle.ep_attr.specs.Attrs.{pairs_of};
+ghost use Rattle.ep_attr.specs.Attrs.{map_of_pairs, pairs_of};
 ghost use Rattle.ep_attr.specs.Rule.{value_of};
 
 use crate::walk::{Rule, merged};
@@ -12,6 +12,7 @@ use ep_units::{NoMemory, Units};
 use std::alloc::Global;
 use std::hash::{Hash, Hasher};
 use std::marker::Model;
+use std::sync::Arc;
 
 // `insertorder`
 const INSERT_ORDER: [u16; 11] = [105, 110, 115, 101, 114, 116, 111, 114, 100, 101, 114];
@@ -39,10 +40,10 @@ impl Hash for Attr {
     }
 }
 
-/// Pairs by strictly rising key.
+/// Pairs by strictly rising key, which copies share.
 #[derive(Drop)]
 pub struct AttrMap {
-    pairs: Vec<Attr>,
+    pairs: Option<Arc<Vec<Attr>>>,
 }
 
 impl Model for AttrMap {
@@ -56,34 +57,42 @@ impl Model for AttrMap {
 
     ghost coded = { coded_map };
 
-    ghost use Rattle.ep_attr.specs.Attrs.{map_of_pairs, pairs_of};
+    ghost use Rattle.std.specs.Arc.{arc_value};
+    ghost use Rattle.ep_attr.specs.Attrs.{held, map_of_pairs, pairs_of};
 
-    ghost view = { λ m. map_of_pairs (pairs_of m.pairs.items) };
+    ghost view = { λ m. map_of_pairs (pairs_of (held m.pairs (λ kept. (arc_value kept).items))) };
 
-    ghost invariant = { λ m. T (is_sorted text_cmp (pairs_of m.pairs.items)) };
+    ghost invariant = { λ m. T (is_sorted text_cmp (pairs_of (held m.pairs (λ kept. (arc_value kept).items)))) };
 }
 
 impl AttrMap {
     /// The map without pairs.
-    pub fn none(alloc: Global) -> AttrMap
+    pub fn none(_alloc: Global) -> AttrMap
         ensures { result ≡ none }
     {
-        AttrMap {
-            pairs: Vec::new(alloc),
-        }
+        AttrMap { pairs: None }
     }
 
-    /// The same map again.
-    pub fn copy(&self, alloc: Global) -> Result<AttrMap, NoMemory>
+    /// The map of these pairs.
+    fn kept(alloc: Global, pairs: Vec<Attr>) -> Result<AttrMap, NoMemory>
+        requires { T (is_sorted text_cmp (pairs_of pairs.items)) }
+        ensures { IfOk result (λ m. m ≡ map_of_pairs (pairs_of pairs.items)) }
+    {
+        Ok(AttrMap {
+            pairs: Some(Arc::new(alloc, pairs)?),
+        })
+    }
+
+    /// The same map again, in a time that doesn't depend on it.
+    pub fn copy(&self, _alloc: Global) -> Result<AttrMap, NoMemory>
         ensures { IfOk result (λ m. m ≡ self.now) }
     {
-        let mut pairs = Vec::new(alloc);
-        for pair in &self.pairs {
-            let key = pair.key.copy(alloc)?;
-            let value = pair.value.copy(alloc)?;
-            pairs.push(Attr { key, value })?;
+        match &self.pairs {
+            None => Ok(AttrMap { pairs: None }),
+            Some(pairs) => Ok(AttrMap {
+                pairs: Some(Arc::try_clone(pairs)?),
+            }),
         }
-        Ok(AttrMap { pairs })
     }
 
     /// The map of pairs in any order, the later value counting.
@@ -108,16 +117,17 @@ impl AttrMap {
     {
         let key = pair.key.copy(alloc)?;
         let value = pair.value.copy(alloc)?;
-        Ok(AttrMap {
-            pairs: vec![in alloc; Attr { key, value }]?,
-        })
+        AttrMap::kept(alloc, vec![in alloc; Attr { key, value }]?)
     }
 
     /// The pairs by rising key.
     pub fn pairs(&self) -> &[Attr]
         ensures { pairs_of result.now ≡ self.now.pairs }
     {
-        self.pairs.as_slice()
+        match &self.pairs {
+            None => &[],
+            Some(pairs) => pairs.as_slice(),
+        }
     }
 
     /// The value of a key.
@@ -141,14 +151,17 @@ impl AttrMap {
     fn by_rule(&self, alloc: Global, rule: Rule, other: &AttrMap) -> Result<AttrMap, NoMemory>
         ensures { IfOk result (λ m. m ≡ pointwise (value_of rule) self.now other.now) }
     {
-        let pairs = merged(alloc, rule, &self.pairs, &other.pairs)?;
-        Ok(AttrMap { pairs })
+        let pairs = merged(alloc, rule, self.pairs(), other.pairs())?;
+        AttrMap::kept(alloc, pairs)
     }
 
     /// A document's map after a change's, of which an empty value removes.
     pub fn apply_doc(&self, alloc: Global, change: &AttrMap) -> Result<AttrMap, NoMemory>
         ensures { IfOk result (λ m. m ≡ after self.now change.now) }
     {
+        if change.is_none() {
+            return self.copy(alloc);
+        }
         self.by_rule(alloc, Rule::After, change)
     }
 
@@ -156,6 +169,12 @@ impl AttrMap {
     pub fn compose_change(&self, alloc: Global, later: &AttrMap) -> Result<AttrMap, NoMemory>
         ensures { IfOk result (λ m. m ≡ join self.now later.now) }
     {
+        if later.is_none() {
+            return self.copy(alloc);
+        }
+        if self.is_none() {
+            return later.copy(alloc);
+        }
         self.by_rule(alloc, Rule::Join, later)
     }
 }
@@ -176,6 +195,9 @@ fn find<'a>(pairs: &'a [Attr], key: &[u16]) -> Option<&'a Units>
 pub fn follow_change(alloc: Global, a: &AttrMap, b: &AttrMap) -> Result<AttrMap, NoMemory>
     ensures { IfOk result (λ m. m ≡ rest a.now b.now) }
 {
+    if a.is_none() {
+        return b.copy(alloc);
+    }
     a.by_rule(alloc, Rule::Rest, b)
 }
 

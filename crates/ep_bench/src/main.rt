@@ -4,13 +4,16 @@
 mod data;
 mod draws;
 mod journal;
+mod two;
+mod typing;
 mod work;
 
 use anyhow::{Context, Result, anyhow};
 use std::env;
 use work::Work;
 
-const USAGE: &str = "usage: ep_bench read|print|pool|fits|apply|apply-runs UNITS COUNT";
+const USAGE: &str =
+    "usage: ep_bench read|print|pool|fits|apply|apply-runs|compose|follow|rebase|slide UNITS COUNT";
 
 fn checksum(rt: &HostRuntime) -> Result<u64> {
     let mut words = env::args(rt)?.skip(1);

@@ -6,6 +6,8 @@ ghost use Rattle.ep_cs.specs.Fits.{Fits};
 
 use crate::data::{AUTHORS, attribs, document, edit};
 use crate::draws::Draws;
+use crate::two::{compose_edits, follow_edits, rebase_edits};
+use crate::typing::slide_typing;
 use anyhow::{Result, anyhow};
 use ep_apply::{Doc, apply, fits};
 use ep_attr::Attr;
@@ -19,7 +21,7 @@ use std::alloc::Global;
 const EDITS: usize = 512;
 
 /// How many are generated of a document that they are made to.
-const DOC_EDITS: usize = 64;
+pub const DOC_EDITS: usize = 64;
 
 /// How many units have one attribute in a document of runs.
 const RUN: usize = 50;
@@ -39,6 +41,14 @@ pub enum Work {
     Apply,
     /// Small edits are made to a document with another attribute each 50 units.
     ApplyRuns,
+    /// Two small edits, one after the other, are made one.
+    Compose,
+    /// A small edit is brought behind another.
+    Follow,
+    /// A small edit is brought behind a thousand others.
+    Rebase,
+    /// Ten thousand letters are slid by a hundred.
+    Slide,
 }
 
 impl Work {
@@ -50,6 +60,10 @@ impl Work {
             "fits" => Some(Work::Fits),
             "apply" => Some(Work::Apply),
             "apply-runs" => Some(Work::ApplyRuns),
+            "compose" => Some(Work::Compose),
+            "follow" => Some(Work::Follow),
+            "rebase" => Some(Work::Rebase),
+            "slide" => Some(Work::Slide),
             _ => None,
         }
     }
@@ -62,6 +76,10 @@ impl Work {
             Work::Fits => try_edits(alloc, units, count),
             Work::Apply => apply_edits(alloc, units, units as usize, count),
             Work::ApplyRuns => apply_edits(alloc, units, RUN, count),
+            Work::Compose => compose_edits(alloc, units, count),
+            Work::Follow => follow_edits(alloc, units, count),
+            Work::Rebase => rebase_edits(alloc, units, count),
+            Work::Slide => slide_typing(alloc, units, count),
         }
     }
 }
@@ -74,7 +92,7 @@ fn attr(alloc: Global, key: &str, value: &str) -> Result<Attr> {
 }
 
 /// A pool of so many authors.
-fn authors(alloc: Global, count: usize) -> Result<Pool> {
+pub fn authors(alloc: Global, count: usize) -> Result<Pool> {
     let mut pool = Pool::new(alloc);
     for i in 0..count {
         let value = format!(in alloc; "a.{i}")?;
@@ -101,7 +119,7 @@ fn edits(alloc: Global, units: u32) -> Result<Vec<Units>> {
     Ok(edits)
 }
 
-fn read_one(alloc: Global, text: &Units, pool: &Pool) -> Result<Change> {
+pub fn read_one(alloc: Global, text: &Units, pool: &Pool) -> Result<Change> {
     if !text.well_formed() {
         return Err(anyhow!("half of a pair stands alone"));
     }
@@ -147,7 +165,7 @@ fn fill_pools(alloc: Global, units: u32, count: u32) -> Result<u64> {
 }
 
 /// The document of a text, with another attribute for each stretch of so many units.
-fn doc(alloc: Global, text: &Units, pool: &Pool, run: usize) -> Result<Doc> {
+pub fn doc(alloc: Global, text: &Units, pool: &Pool, run: usize) -> Result<Doc> {
     if !text.well_formed() {
         return Err(anyhow!("half of a pair stands alone"));
     }
@@ -161,7 +179,12 @@ fn doc(alloc: Global, text: &Units, pool: &Pool, run: usize) -> Result<Doc> {
 }
 
 /// Small edits of a document, which fit it.
-fn fitting_edits(alloc: Global, doc: &Doc, pool: &Pool, draws: &mut Draws) -> Result<Vec<Change>>
+pub fn fitting_edits(
+    alloc: Global,
+    doc: &Doc,
+    pool: &Pool,
+    draws: &mut Draws,
+) -> Result<Vec<Change>>
     ensures { IfOk result (λ changes. All (λ change. Fits change doc.now) changes.items) }
 {
     let mut changes = Vec::new(alloc);

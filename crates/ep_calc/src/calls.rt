@@ -1,20 +1,22 @@
 //! Apply, compose and follow where the changes fit.
 
-ghost use Rattle.std.specs.Prelude.{◌≡◌, IfOk, IfErr};
+ghost use Rattle.std.specs.Prelude.{◌≡◌, IfOk, IfErr, OnOk};
 ghost use Rattle.ep_cs.specs.Doc.{text_of};
 ghost use Rattle.ep_cs.specs.Edit.{apply};
 ghost use Rattle.ep_cs.specs.Change.{stamped};
 ghost use Rattle.ep_cs.specs.Fits.{Fits};
 ghost use Rattle.ep_cs.specs.Follow.{follow};
+ghost use Rattle.ep_cs.specs.Rebase.{rebase};
+ghost use Rattle.ep_cs.specs.Made.{AreMade, after_all, edits_of};
 ghost use Rattle.ep_compose.specs.Composed.{composed};
 ghost use Rattle.ep_follow.specs.Follows.{is_a};
-ghost use Rattle.ep_calc.specs.Unfit.{IsUnfit, IsUnfitAfter, IsUnfitBeside};
+ghost use Rattle.ep_calc.specs.Unfit.{IsUnfit, IsUnfitAfter, IsUnfitAmong, IsUnfitBehind, IsUnfitBeside};
 
 use crate::bad::CalcBad;
 use ep_apply::{Doc, apply, fits};
 use ep_compose::compose;
 use ep_cs::{Change, First};
-use ep_follow::follow;
+use ep_follow::{follow, rebase};
 use std::alloc::Global;
 
 /// The document after a change.
@@ -56,4 +58,32 @@ pub fn followed(
     fits(doc, a)?;
     fits(doc, b)?;
     Ok(follow(alloc, a, b, first)?)
+}
+
+/// Sees whether each of some changes fits what those before it make of a document.
+pub fn all_fit(alloc: Global, doc: &Doc, changes: &[Change]) -> Result<(), CalcBad>
+    ensures made { OnOk result (AreMade doc.now changes.now) }
+    ensures refused { IfErr result (λ why. IsUnfitAmong why changes.now doc.now) }
+{
+    let mut now = doc.copy(alloc)?;
+    for change in changes {
+        now = applied(alloc, &now, change)?;
+    }
+    Ok(())
+}
+
+/// A change of a document, brought behind changes that are made to the document one after another, each of which goes
+/// first. Whether it fits is seen before theirs.
+pub fn rebased(
+    alloc: Global,
+    doc: &Doc,
+    change: &Change,
+    through: &[Change],
+) -> Result<Change, CalcBad>
+    ensures change { IfOk result (λ c. c ≡ stamped (rebase (edits_of through.now) change.now.edit) (text_of (after_all doc.now through.now))) }
+    ensures refused { IfErr result (λ why. IsUnfitBehind why change.now through.now doc.now) }
+{
+    fits(doc, change)?;
+    all_fit(alloc, doc, through)?;
+    Ok(rebase(alloc, through, change.copy(alloc)?)?)
 }

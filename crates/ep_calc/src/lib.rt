@@ -5,7 +5,7 @@ mod bad;
 mod calls;
 
 pub use bad::CalcBad;
-pub use calls::{applied, composed, followed};
+pub use calls::{all_fit, applied, composed, followed, rebased};
 
 #[cfg(test)]
 mod rows;

@@ -1,7 +1,7 @@
 //! Worked rows, as texts.
 
 use crate::bad::CalcBad;
-use crate::calls::{applied, composed, followed};
+use crate::calls::{applied, composed, followed, rebased};
 use ep_apply::Doc;
 use ep_attr::Attr;
 use ep_cs::{Change, First, FitBad};
@@ -139,6 +139,41 @@ fn followers(rt: HostRuntime) -> Result<(), Fail> {
     Ok(())
 }
 
+/// A change behind two that are made to its document, where the pool has its pairs.
+fn rebasing(
+    alloc: Global,
+    pool: &Pool,
+    doc: &Doc,
+    edit: &str,
+    through: (&str, &str),
+) -> Result<Option<Units>, Fail> {
+    let edit = change(alloc, edit, pool)?;
+    let mut since = Vec::new(alloc);
+    since.push(change(alloc, through.0, pool)?)?;
+    since.push(change(alloc, through.1, pool)?)?;
+    let behind = rebased(alloc, doc, &edit, &since)?;
+    if !has_pairs(&behind, pool) {
+        return Ok(None);
+    }
+    Ok(Some(print(alloc, &behind, pool)?))
+}
+
+#[test]
+fn rebases(rt: HostRuntime) -> Result<(), Fail> {
+    let alloc = rt.alloc();
+    let pool = Pool::new(alloc);
+    let doc = document(alloc, "ab\n", "|1+3", &pool)?;
+    for (edit, through, wanted) in [
+        ("Z:3>1=1+1$X", ("Z:3>1+1$P", "Z:4<1=1-1$"), "Z:3>1=1+1$X"),
+        ("Z:3>1=1+1$X", ("Z:3>1=1+1$P", "Z:4>1=1+1$Q"), "Z:5>1=3+1$X"),
+    ] {
+        let made = rebasing(alloc, &pool, &doc, edit, through)?;
+        let wanted = Units::from_str(alloc, wanted)?;
+        assert!(rt; made.is_some_and(|made| made.as_slice() == wanted.as_slice()));
+    }
+    Ok(())
+}
+
 #[test]
 fn refusals(rt: HostRuntime) -> Result<(), Fail> {
     let alloc = rt.alloc();
@@ -156,6 +191,7 @@ fn refusals(rt: HostRuntime) -> Result<(), Fail> {
         assert!(rt;
             followed(alloc, &doc, &first, &identity, First::A).is_err_and(|bad| bad == why)
         );
+        assert!(rt; rebased(alloc, &doc, &first, &[identity]).is_err_and(|bad| bad == why));
     }
     Ok(())
 }

@@ -1,7 +1,6 @@
 -- The laws of edits, for changes that fit a document.
-use Rattle.std.proofs.Common.{◌≡◌, ℕ, suc, ◌+◌, List, [], ◌∷◌, ◌++◌, map, length, refl, sym, ap, ◌∙◌, subst, arith, length-append}
+use Rattle.std.proofs.Common.{◌≡◌, suc, ◌+◌, List, [], ◌∷◌, ◌++◌, map, length, refl, sym, ap, ◌∙◌, subst, arith, length-append}
 use Rattle.std.proofs.lemmas.List.{length-map}
-use Rattle.ep_attr.specs.AttrMap.{AttrMap}
 use Rattle.ep_cs.specs.Doc.{Cell, Doc, text_of, dressed}
 use Rattle.ep_cs.specs.Edit.{Fate, Place, Edit, Item, IsSettled, at_place, over, painted, apply, items, numbered, compose, identity}
 use Rattle.ep_cs.specs.Edit.Fate.{Drop, Keep}

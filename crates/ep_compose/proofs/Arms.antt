@@ -1,14 +1,14 @@
 -- A piece of two changes as a piece of their composition.
-use Rattle.std.proofs.Common.{◌≡◌, ℕ, zero, suc, ◌+◌, ◌≤◌, List, [], ◌∷◌, ◌++◌, map, length, take, drop, replicate, refl, sym, ap, ◌∙◌, arith, length-append}
-use Rattle.std.proofs.lemmas.List.{length-map, length-replicate}
+use Rattle.std.proofs.Common.{◌≡◌, ℕ, zero, suc, ◌≤◌, List, [], ◌∷◌, ◌++◌, map, length, take, drop, replicate, refl, sym, ap, ◌∙◌, arith}
+use Rattle.std.proofs.lemmas.List.{length-map}
 use Rattle.ep_attr.specs.AttrMap.{AttrMap, join}
 use Rattle.ep_cs.specs.Doc.{Cell, dressed}
 use Rattle.ep_cs.specs.Edit.{Fate, Step, Item, painted, inserts}
 use Rattle.ep_cs.specs.Edit.Fate.{Drop, Keep}
-use Rattle.ep_cs.specs.Edit.Step.{Insert, Pass}
+use Rattle.ep_cs.specs.Edit.Step.{Pass}
 use Rattle.ep_cs.specs.Edit.Item.{New}
 use Rattle.ep_cs.specs.Steps.{passed, run}
-use Rattle.ep_cs.proofs.Composed.{IsAction, run_inserts, run_only_inserts}
+use Rattle.ep_cs.proofs.Composed.{run_inserts, run_only_inserts}
 use Rattle.ep_cs.proofs.Items.{items_act}
 use Rattle.ep_cursor.specs.Made.{given}
 use Rattle.ep_cursor.proofs.Made.{passed_times, passed_new, given_kept, given_dropped, given_new}

@@ -1,11 +1,11 @@
 -- Pieces in which both changes have a run that passes or makes units.
-use Rattle.std.proofs.Common.{◌≡◌, ℕ, ◌+◌, ◌-◌, ◌<◌, ◌≤◌, ◌⊎◌, inl, inr, List, [], ◌∷◌, ◌++◌, map, length, take, drop, refl, sym, ap, ◌∙◌, subst, arith, take-take, append-nil}
+use Rattle.std.proofs.Common.{◌≡◌, ℕ, ◌+◌, ◌≤◌, List, [], ◌∷◌, ◌++◌, map, length, take, drop, refl, sym, ap, ◌∙◌, subst, arith, append-nil}
 use Rattle.std.proofs.lemmas.List.{length-take-le, length-map}
 use Rattle.ep_units.specs.Text.{Text}
 use Rattle.ep_attr.specs.AttrMap.{AttrMap, none, after, join}
 use Rattle.ep_attr.proofs.Maps.{after-after}
 use Rattle.ep_cs.specs.Doc.{Cell, dressed}
-use Rattle.ep_cs.specs.Edit.{Step, inserts}
+use Rattle.ep_cs.specs.Edit.{inserts}
 use Rattle.ep_cs.specs.Edit.Fate.{Drop, Keep}
 use Rattle.ep_cs.specs.Edit.Step.{Insert}
 use Rattle.ep_cs.specs.Change.{newlines}
@@ -15,19 +15,17 @@ use Rattle.ep_cs.specs.Runs.{cells}
 use Rattle.ep_cs.specs.NormalRuns.{IsLined}
 use Rattle.ep_cs.specs.declared.op.Op.{Op}
 use Rattle.ep_cs.proofs.Drafts.{once}
-use Rattle.ep_cursor.specs.Left.{Left, steps_left, advanced}
-use Rattle.ep_cursor.specs.Said.{source, IsSaid, AreSaid}
-use Rattle.ep_cursor.specs.Made.{text_made}
-use Rattle.ep_cursor.proofs.Lined.{IsPiece, shorter_first, shorter_second, lined_within}
-use Rattle.ep_cursor.proofs.Cuts.{newlines_take}
+use Rattle.ep_cursor.specs.Left.{Left, advanced}
+use Rattle.ep_cursor.specs.Said.{IsSaid, AreSaid}
+use Rattle.ep_cursor.proofs.Lined.{IsPiece}
 use Rattle.ep_cursor.proofs.Parts.{inside_first, inside_second, lines_front, piece}
 use Rattle.ep_cursor.proofs.Lefts.{left_cut, left_said, first_said}
 use Rattle.ep_cursor.proofs.Made.{passed-append, passed_times, passed_new, text_new}
 use Rattle.ep_cursor.proofs.TrueDrafts.{true_insert}
-use Rattle.ep_compose.specs.Composing.{AreTrueOf, CanGo, Advances}
+use Rattle.ep_compose.specs.Composing.{CanGo, Advances}
 use Rattle.ep_cursor.specs.Part.{IsShorter}
 use Rattle.ep_compose.proofs.Arms.{times, IsArm, arm_keep_keep, arm_keep_drop, arm_insert_keep, arm_insert_drop}
-use Rattle.ep_compose.proofs.Claims.{made_parts, true_arm, drop_front, take_front, kept_draft, dropped_draft}
+use Rattle.ep_compose.proofs.Claims.{true_arm, drop_front, take_front, kept_draft, dropped_draft}
 use Rattle.ep_compose.proofs.Goes.{goes}
 use Rattle.ep_compose.proofs.Moves.{keeps, drops, inserting_run, made_keep, said_times, said_new, some_steps}
 

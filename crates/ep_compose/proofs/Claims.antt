@@ -1,5 +1,5 @@
 -- What is written and what is left stay true of a text.
-use Rattle.std.proofs.Common.{◌≡◌, ℕ, zero, suc, ◌+◌, ◌-◌, ◌<◌, ◌≤◌, List, [], ◌∷◌, ◌++◌, length, take, drop, refl, sym, ap, ◌∙◌, subst, arith, take-append-drop, drop-drop, length-drop, append-nil, replicate}
+use Rattle.std.proofs.Common.{◌≡◌, ℕ, ◌+◌, ◌≤◌, List, [], ◌∷◌, ◌++◌, length, take, drop, refl, sym, ap, ◌∙◌, subst, take-append-drop, drop-drop}
 use Rattle.std.proofs.lemmas.List.{length-take-le}
 use Rattle.ep_units.specs.Text.{Text}
 use Rattle.ep_cs.specs.Edit.{Step}

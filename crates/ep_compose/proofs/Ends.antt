@@ -1,9 +1,8 @@
 -- A composition from its start to its end.
 use Rattle.std.proofs.Common.{◌≡◌, ℕ, zero, suc, ◌+◌, ◌-◌, ◌<◌, ◌≤◌, ◌^◌, Bool, true, false, MatchBool, true≢false, List, [], ◌∷◌, ◌++◌, length, take, drop, refl, sym, ap, ◌∙◌, subst, arith, length-drop}
-use Rattle.ep_units.specs.Text.{Text}
 use Rattle.ep_attr.specs.AttrMap.{none}
 use Rattle.ep_cs.specs.Doc.{Doc, text_of, dressed}
-use Rattle.ep_cs.specs.Edit.{Edit, Step, Item, apply, apply_items, compose, edit_of, items, numbered, painted, settle}
+use Rattle.ep_cs.specs.Edit.{Edit, Step, Item, apply, apply_items, compose, edit_of, items, numbered, painted}
 use Rattle.ep_cs.specs.Edit.Fate.{Drop, Keep}
 use Rattle.ep_cs.specs.Edit.Step.{Insert, Pass}
 use Rattle.ep_cs.specs.Edit.Item.{New}
@@ -20,12 +19,11 @@ use Rattle.ep_cs.proofs.Plain.{length-text_of}
 use Rattle.ep_cursor.specs.Left.{Left, left_of, steps_left}
 use Rattle.ep_cursor.specs.Said.{AreSaid}
 use Rattle.ep_cursor.specs.Made.{given}
-use Rattle.ep_cursor.specs.TrueDraft.{IsTrueDraft}
 use Rattle.ep_cursor.proofs.Lefts.{rest_left}
 use Rattle.ep_cursor.proofs.Made.{run-append, passed-append, passed_times, length-run}
 use Rattle.ep_cursor.proofs.Starts.{edit_left, passed_left, given_left, text_left, said_left}
 use Rattle.ep_cursor.proofs.TrueDrafts.{true_blank, true_drafted}
-use Rattle.ep_compose.specs.Composing.{whole, AreTrueOf, CanGo, Advances, IsAll, IsComposing}
+use Rattle.ep_compose.specs.Composing.{AreTrueOf, Advances, IsAll, IsComposing}
 use Rattle.ep_compose.proofs.Moves.{places_of_rest}
 use Rattle.ep_compose.proofs.Pieces.{composed_documents}
 

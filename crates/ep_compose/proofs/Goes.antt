@@ -1,5 +1,5 @@
 -- A piece is composed: the composition goes on, and means the same.
-use Rattle.std.proofs.Common.{◌≡◌, ℕ, ◌+◌, ◌<◌, ◌≤◌, List, ◌++◌, length, take, drop, refl, sym, ap, ◌∙◌, arith, append_assoc, take-take, drop-drop, length-drop, length-append}
+use Rattle.std.proofs.Common.{◌≡◌, ℕ, ◌+◌, ◌≤◌, List, ◌++◌, length, take, drop, sym, ap, ◌∙◌, arith, append_assoc, take-take, drop-drop, length-drop, length-append}
 use Rattle.std.proofs.lemmas.List.{drop-take}
 use Rattle.ep_units.specs.Text.{Text}
 use Rattle.ep_cs.specs.Edit.{Step, Item, painted}

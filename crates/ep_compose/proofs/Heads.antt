@@ -1,33 +1,32 @@
 -- What the calls of a step need and do, told of the heads.
-use Rattle.std.proofs.Common.{◌≡◌, ℕ, ◌+◌, ◌<◌, ◌≤◌, ◌^◌, List, [], ◌∷◌, ◌++◌, length, take, drop, refl, sym, ap, ◌∙◌, subst, arith, take-take, append-nil}
+use Rattle.std.proofs.Common.{◌≡◌, ℕ, ◌+◌, ◌<◌, ◌≤◌, ◌^◌, List, [], ◌∷◌, ◌++◌, length, take, drop, sym, ap, ◌∙◌, subst, arith, take-take, append-nil}
 use Rattle.std.proofs.lemmas.List.{length-take, length-take-le, length-map}
 use Rattle.ep_units.specs.Text.{Text}
-use Rattle.ep_attr.specs.AttrMap.{AttrMap, none, after, join}
-use Rattle.ep_cs.specs.Edit.{Step, inserts}
+use Rattle.ep_attr.specs.AttrMap.{none, after}
+use Rattle.ep_cs.specs.Edit.{inserts}
 use Rattle.ep_cs.specs.Edit.Fate.{Drop, Keep}
 use Rattle.ep_cs.specs.Steps.{passed}
-use Rattle.ep_cs.specs.Draft.{Draft, keeping, dropping, inserting, inserted_by}
+use Rattle.ep_cs.specs.Draft.{Draft, inserted_by}
 use Rattle.ep_cs.specs.Runs.{cells, inserted}
 use Rattle.ep_cs.specs.Change.{newlines}
 use Rattle.ep_cs.specs.NormalRuns.{IsLined}
 use Rattle.ep_cs.specs.Written.{AreWritten}
 use Rattle.ep_cs.specs.declared.op.Kind.TheVariants as kind
-use Rattle.ep_cs.specs.declared.op.Op.{Op}
 use Rattle.ep_cursor.specs.declared.cursor.Head.{Head}
-use Rattle.ep_cursor.specs.Left.{Left, steps_left, first_units, first_lines, advanced, skipped}
+use Rattle.ep_cursor.specs.Left.{Left, steps_left, first_lines, advanced}
 use Rattle.ep_cursor.specs.Heads.{op_of, IsHead}
 use Rattle.ep_cursor.specs.Said.{IsSaid, AreSaid}
 use Rattle.ep_cursor.specs.Made.{text_made, given}
 use Rattle.ep_cursor.proofs.Lined.{lined_within}
 use Rattle.ep_cursor.proofs.Parts.{lines_wide, inside_first, piece}
 use Rattle.ep_cursor.proofs.Lefts.{first_is, left_cut, first_said, first_written}
-use Rattle.ep_cursor.proofs.Made.{given-append, given_kept, given_new, inserted_within, passed-append, passed_times, text_new}
+use Rattle.ep_cursor.proofs.Made.{given-append, given_kept, given_new, inserted_within, text_new}
 use Rattle.ep_compose.specs.Composing.{CanGo, Advances}
 use Rattle.ep_cursor.specs.Part.{IsShorter}
 use Rattle.ep_compose.proofs.Arms.{times}
 use Rattle.ep_compose.proofs.Claims.{made_parts, take_front}
-use Rattle.ep_compose.proofs.Moves.{keeps, drops, inserting_run, made_keep, within_first_rest, within_second_rest, places_of_rest, first_drops, second_inserts, rest_then_kept, rest_then_dropped, kept_then_rest, inserted_then_rest}
-use Rattle.ep_compose.proofs.Boths.{front_lined, kept_then_kept, kept_then_dropped, inserted_then_kept, inserted_then_dropped}
+use Rattle.ep_compose.proofs.Moves.{keeps, drops, inserting_run, made_keep, within_first_rest, within_second_rest, places_of_rest}
+use Rattle.ep_compose.proofs.Boths.{front_lined}
 
 -- the same, of what the calls told
 pub moved : (out o o' : Draft) (a x x' b y y' : Left) → o' ≡ o → x' ≡ x → y' ≡ y → Advances out a b o x y → Advances out a b o' x' y'

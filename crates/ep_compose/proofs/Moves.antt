@@ -1,18 +1,16 @@
 -- Pieces in which only one of the changes has a run.
-use Rattle.std.proofs.Common.{◌≡◌, ℕ, zero, suc, ◌+◌, ◌-◌, ◌<◌, ◌≤◌, List, [], ◌∷◌, ◌++◌, map, length, take, drop, replicate, refl, sym, ap, ap₂, ◌∙◌, subst, arith, length-drop}
+use Rattle.std.proofs.Common.{◌≡◌, ℕ, ◌+◌, ◌≤◌, List, [], ◌∷◌, ◌++◌, map, length, take, drop, refl, sym, ap, ap₂, ◌∙◌, subst, arith, length-drop}
 use Rattle.std.proofs.lemmas.List.{length-take-le, length-map, length-replicate}
 use Rattle.ep_units.specs.Text.{Text}
-use Rattle.ep_attr.specs.AttrMap.{AttrMap, none, after, join}
+use Rattle.ep_attr.specs.AttrMap.{AttrMap, none, after}
 use Rattle.ep_attr.proofs.Maps.{after-none, join-none, none-join}
 use Rattle.ep_cs.specs.Doc.{Cell, dressed}
 use Rattle.ep_cs.specs.Edit.{Fate, Step, inserts}
 use Rattle.ep_cs.specs.Edit.Fate.{Drop, Keep}
 use Rattle.ep_cs.specs.Edit.Step.{Insert, Pass}
-use Rattle.ep_cs.specs.Change.{newlines}
 use Rattle.ep_cs.specs.Steps.{passed}
 use Rattle.ep_cs.specs.Draft.{Draft, keeping, dropping, inserting}
 use Rattle.ep_cs.specs.Runs.{cells}
-use Rattle.ep_cs.specs.NormalRuns.{IsLined}
 use Rattle.ep_cs.specs.declared.op.Kind.TheVariants as kind
 use Rattle.ep_cs.specs.declared.op.Op.{Op}
 use Rattle.ep_cursor.specs.Left.{Left, steps_left, advanced, skipped}
@@ -21,7 +19,7 @@ use Rattle.ep_cursor.specs.Made.{text_made, given}
 use Rattle.ep_cursor.proofs.Lefts.{left_cut, left_said, first_said, rest_left, rest_cut, rest_said}
 use Rattle.ep_cursor.proofs.Made.{passed-append, passed_times, passed_new, text_kept, text_dropped, text_new, given_kept, given-append}
 use Rattle.ep_cursor.proofs.TrueDrafts.{true_insert}
-use Rattle.ep_compose.specs.Composing.{AreTrueOf, CanGo, Advances}
+use Rattle.ep_compose.specs.Composing.{CanGo, Advances}
 use Rattle.ep_compose.proofs.Arms.{times, IsArm, arm_keep_keep, arm_keep_drop, arm_drop, arm_insert_keep, arm_insert}
 use Rattle.ep_compose.proofs.Claims.{true_arm, drop_front, kept_draft, dropped_draft}
 use Rattle.ep_compose.proofs.Goes.{goes}

@@ -1,15 +1,15 @@
 -- Each piece that a composition inserts is a document.
-use Rattle.std.proofs.Common.{◌≡◌, ℕ, zero, suc, ◌+◌, ◌≤◌, Bool, true, false, cond, not, ◌&&◌, ◌||◌, List, [], ◌∷◌, ◌++◌, map, length, take, drop, refl, sym, ap, ◌∙◌, subst, T, arith, append_assoc, append-nil, length-append, length-drop}
+use Rattle.std.proofs.Common.{◌≡◌, ℕ, zero, suc, ◌+◌, ◌≤◌, Bool, true, false, cond, not, ◌||◌, List, [], ◌∷◌, ◌++◌, map, length, take, drop, refl, sym, ap, ◌∙◌, subst, T, arith, append_assoc, append-nil, length-drop}
 use Rattle.std.proofs.lemmas.List.{map-append, length-map, length-take-le}
 use Rattle.ep_units.specs.Text.{Text, is_high, is_low, is_paired, is_well_formed}
 use Rattle.ep_attr.specs.AttrMap.{AttrMap}
 use Rattle.ep_attr.proofs.SameMap.{both_true, first_true, second_true}
 use Rattle.ep_cs.specs.Doc.{Cell, Doc, text_of, dressed, is_document}
-use Rattle.ep_cs.specs.Edit.{Fate, Place, Edit, Step, at_place, over, apply, inserts, settle, steps_from, steps_of, pieces, step_over_new, fate_over, steps_over, compose}
+use Rattle.ep_cs.specs.Edit.{Fate, Place, Edit, Step, at_place, over, apply, inserts, steps_from, steps_of, pieces, step_over_new, steps_over, compose}
 use Rattle.ep_cs.specs.Edit.Fate.{Drop, Keep}
 use Rattle.ep_cs.specs.Edit.Step.{Insert, Pass}
 use Rattle.ep_cs.specs.Fits.{goes_on, keeps_pairs, AreDocuments}
-use Rattle.ep_cursor.proofs.Documents.{documents-append, AreBlocks, blocks, document_after}
+use Rattle.ep_cs.proofs.Documents.{documents-append, AreBlocks, blocks, document_after}
 
 -- the text of a piece waits
 blocks_wait : (w cs : List Cell) (s : List Step) → AreBlocks (w ++ cs) s → AreBlocks w (inserts cs ++ s)

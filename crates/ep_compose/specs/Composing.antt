@@ -1,5 +1,5 @@
 -- Where a composition is: what is written, and what is left of the two changes.
-use Rattle.std.specs.Prelude.{◌≡◌, [], ℕ, ◌+◌, ◌<◌, ◌≤◌, ◌^◌, List, ◌++◌, length, take, drop}
+use Rattle.std.specs.Prelude.{◌≡◌, [], ◌+◌, ◌<◌, ◌^◌, List, ◌++◌, length, take, drop}
 use Rattle.ep_units.specs.Text.{Text}
 use Rattle.ep_cs.specs.Doc.{Doc, text_of}
 use Rattle.ep_cs.specs.Edit.{Step, Item, painted, apply, apply_items}

@@ -4,6 +4,7 @@ pub mod Items
 pub mod Diamond
 pub mod Pairs
 pub mod Whole
+pub mod Documents
 pub mod Plain
 pub mod Splices
 pub mod Identity
@@ -18,6 +19,7 @@ pub mod Truth
 pub mod Taking
 pub mod Roomy
 pub mod Stretches
+pub mod InOrder
 pub mod Drafts
 pub mod Packings
 pub mod TrueRuns

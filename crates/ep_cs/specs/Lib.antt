@@ -6,14 +6,17 @@ pub mod Runs
 pub mod Normal
 pub mod Change
 pub mod Fits
+pub mod Made
 pub mod Follow
 pub mod Rebase
 pub mod Plain
 pub mod Spelling
 pub mod Codes
 pub mod NormalRuns
+pub mod InOrder
 pub mod Written
 pub mod Room
+pub mod Joining
 pub mod Taken
 pub mod Lines
 pub mod Draft

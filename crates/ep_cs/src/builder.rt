@@ -53,6 +53,26 @@ impl Builder {
         }
     }
 
+    /// Nothing written, with room for the runs and the inserted units of two changes.
+    pub fn with_room_of(
+        alloc: Global,
+        old_len: u32,
+        a: &Change,
+        b: &Change,
+    ) -> Result<Builder, NoMemory>
+        ensures { IfOk result (λ builder. builder ≡ blank old_len) }
+    {
+        let runs = a.ops.len().saturating_add(b.ops.len()).saturating_add(1);
+        let units = a.bank.len().saturating_add(b.bank.len());
+        Ok(Builder {
+            alloc,
+            old_len,
+            new_len: u64::from(old_len),
+            ops: Vec::with_capacity(alloc, runs)?,
+            bank: Units::with_capacity(alloc, units)?,
+        })
+    }
+
     /// Keeps so many units with a map. Where they hold newlines, the last is their last unit.
     pub fn keep(&mut self, units: u32, lines: u32, attrs: &AttrMap) -> Result<(), NoMemory>
         requires inside { passed self.old.steps + units ≤ self.old.old }

@@ -21,7 +21,7 @@ pub use laws::{
     followed_either_way, identity_changes_nothing, identity_is_unit, pairs_are_kept,
     plain_is_its_text, splice_replaces, told_by_items,
 };
-pub use lines::count_lines;
+pub use lines::{count_lines, last_line};
 pub use new_map::without_empty;
 pub use op::{Kind, Op};
 pub use packed::Change;

@@ -1,11 +1,13 @@
 //! Runs as they were written, brought to normal form from the last to the first.
 
-ghost use Rattle.std.specs.Prelude.{◌≡◌, ◌+◌, ◌<◌, ◌≤◌, ◌^◌, length, reverse, OnOk, IfOk};
+ghost use Rattle.std.specs.Prelude.{◌≡◌, true, ◌+◌, ◌<◌, ◌≤◌, ◌^◌, length, reverse, OnOk, IfOk};
 ghost use Rattle.ep_cs.specs.Runs.{cells, all_inserted, all_passed};
 ghost use Rattle.ep_cs.specs.Normal.{put, put_cells};
-ghost use Rattle.ep_cs.specs.NormalRuns.{AreLined};
+ghost use Rattle.ep_cs.specs.NormalRuns.{AreLined, is_insert_then_drop, precedes};
+ghost use Rattle.ep_cs.specs.InOrder.{AreInOrder, SaysNoLines};
 ghost use Rattle.ep_cs.specs.Written.{put_front, AreWritten, IsFinished};
 ghost use Rattle.ep_cs.specs.Room.{HasRoom};
+ghost use Rattle.ep_cs.specs.Joining.{JoinsFirst};
 ghost use Rattle.ep_cs.specs.Taken.{made, IsRoomy};
 ghost use Rattle.ep_cs.specs.Lines.{IsStretch};
 
@@ -15,37 +17,49 @@ use ep_attr::AttrMap;
 use ep_units::NoMemory;
 use std::alloc::Global;
 
+/// A run joined to the next, which stands last here.
+fn join(ops: &mut Vec<Op>, op: Op) -> Result<(), NoMemory>
+    requires { JoinsFirst op (reverse ops.old.items) }
+    ensures { OnOk result (reverse ops.new.items ≡ put op (reverse ops.old.items)) }
+{
+    match ops.pop() {
+        None => Ok(()),
+        Some(next) => {
+            let Op {
+                kind,
+                units,
+                lines,
+                attrs,
+            } = next;
+            let units = op.units + units;
+            let lines = op.lines + lines;
+            ops.push(Op {
+                kind,
+                units,
+                lines,
+                attrs,
+            })?;
+            Ok(())
+        }
+    }
+}
+
 /// A run before runs in normal form, which stand here from the last to the first.
 fn put(ops: &mut Vec<Op>, op: Op) -> Result<(), NoMemory>
     requires { HasRoom op (reverse ops.old.items) }
     ensures { OnOk result (reverse ops.new.items ≡ put op (reverse ops.old.items)) }
 {
-    match ops.pop() {
-        None => {
+    match ops.as_slice() {
+        [] => {
             if !op.is_bare() {
                 ops.push(op)?;
             }
             Ok(())
         }
-        Some(next) => {
-            if op.joins(&next) {
-                let Op {
-                    kind,
-                    units,
-                    lines,
-                    attrs,
-                } = next;
-                let units = op.units + units;
-                let lines = op.lines + lines;
-                ops.push(Op {
-                    kind,
-                    units,
-                    lines,
-                    attrs,
-                })?;
-                Ok(())
+        [.., next] => {
+            if op.joins(next) {
+                join(ops, op)
             } else {
-                ops.push(next)?;
                 ops.push(op)?;
                 Ok(())
             }
@@ -117,6 +131,49 @@ fn take(
     }
 }
 
+fn is_insert_then_drop(kind: Kind, next: Kind) -> bool
+    ensures { result ≡ is_insert_then_drop kind next }
+{
+    match (kind, next) {
+        (Kind::Insert, Kind::Drop) => true,
+        (_, _) => false,
+    }
+}
+
+/// Whether a run may stand before these.
+fn precedes(op: &Op, later: &[Op]) -> bool
+    ensures { result ≡ precedes op.now later.now }
+{
+    match later {
+        [] => !op.is_bare(),
+        [next, ..] => !op.joins(next) && !is_insert_then_drop(op.kind, next.kind),
+    }
+}
+
+/// Whether a run that inserts some text says that it has no newlines.
+fn says_no_lines(op: &Op) -> bool
+    ensures { result ≡ true → SaysNoLines op.now.kind op.now.units op.now.lines }
+{
+    match op.kind {
+        Kind::Insert => op.units > 0 && op.lines == 0,
+        _ => true,
+    }
+}
+
+/// Whether runs without inserted newlines stand in normal form as they were written.
+fn are_in_order(ops: &[Op]) -> bool
+    ensures { result ≡ true → AreInOrder ops.now }
+{
+    let mut rest = ops;
+    'runs: while let [op, later @ ..] = rest {
+        if !precedes(op, later) || !says_no_lines(op) {
+            return false;
+        }
+        rest = later;
+    }
+    true
+}
+
 /// Runs in normal form for the written ones.
 pub fn normal(alloc: Global, old_len: u32, ops: Vec<Op>, bank: &[u16]) -> Result<Vec<Op>, NoMemory>
     requires written { AreWritten ops.items bank.now }
@@ -126,9 +183,29 @@ pub fn normal(alloc: Global, old_len: u32, ops: Vec<Op>, bank: &[u16]) -> Result
     ensures finished { IfOk result (λ made. IsFinished old_len ops.items bank.now made.items) }
     ensures lines { IfOk result (λ made. AreLined made.items) }
 {
+    if count_lines(bank) == 0 && are_in_order(&ops) {
+        return Ok(ops);
+    }
+    put_in_order(alloc, old_len, ops, bank)
+}
+
+/// The written runs, put before one another from the last to the first.
+fn put_in_order(
+    alloc: Global,
+    old_len: u32,
+    ops: Vec<Op>,
+    bank: &[u16],
+) -> Result<Vec<Op>, NoMemory>
+    requires written { AreWritten ops.items bank.now }
+    requires lined { AreLined ops.items }
+    requires inside { all_passed ops.items ≤ old_len }
+    requires small { length bank.now < 2 ^ 32 }
+    ensures finished { IfOk result (λ made. IsFinished old_len ops.items bank.now made.items) }
+    ensures lines { IfOk result (λ made. AreLined made.items) }
+{
     let mut left = ops;
     let mut drops = Vec::new(alloc);
-    let mut rest = Vec::new(alloc);
+    let mut rest = Vec::with_capacity(alloc, left.len())?;
     let mut used = bank.len();
     'runs: while let Some(op) = left.pop() {
         let start = used - op.inserted() as usize;

@@ -1,16 +1,17 @@
 -- The pool of the pairs that runs name has the pairs of those runs.
-use Rattle.std.proofs.Common.{◌≡◌, ℕ, Bool, true, false, true≢false, cond, ◌&&◌, ◌||◌, List, [], ◌∷◌, ◌++◌, fold, Option, Some, None, is_none, is_some, refl, sym, ap, ◌∙◌}
-use Rattle.std.proofs.lemmas.List.Folds.{list_any-append}
+use Rattle.std.proofs.Common.{◌≡◌, ℕ, Bool, true, false, true≢false, cond, ◌&&◌, ◌||◌, List, [], ◌∷◌, ◌++◌, fold, Option, Some, None, is_none, is_some, map, append_assoc, refl, sym, ap, ◌∙◌}
+use Rattle.std.proofs.lemmas.Grind.{flat_map-append}
+use Rattle.std.proofs.lemmas.List.Folds.{list_all-append, list_any-append}
 use Rattle.std.specs.List.{flat_map, list_all, position}
 use Rattle.ep_units.specs.Text.{Text}
 use Rattle.ep_attr.specs.AttrMap.{Pair}
-use Rattle.ep_attr.proofs.SameMap.{both_true}
+use Rattle.ep_attr.proofs.SameMap.{both_true, first_true, second_true}
 use Rattle.ep_pool.specs.Pool.{has, put, same_pair}
 use Rattle.ep_pool.proofs.Gathering.{same_pair_itself}
 use Rattle.ep_cs.specs.Change.{Change}
 use Rattle.ep_cs.specs.declared.op.Op.{Op}
 use Rattle.ep_csread.proofs.Numbering.{found_there}
-use Rattle.ep_csread.specs.Spelling.{has_pairs, pairs_named, printed}
+use Rattle.ep_csread.specs.Spelling.{has_pairs, all_named, pairs_named, printed}
 
 either : (a b : Bool) → b ≡ true → (a || b) ≡ true
 either true b e = refl
@@ -74,3 +75,33 @@ put_found ps p found = go (has ps p) refl
     go : (b : Bool) → has ps p ≡ b → ps ≡ cond b ps (ps ++ p ∷ [])
     go true e = refl
     go false e = absurd (true≢false (sym (missing _ found) ∙ (found_there ps p ∙ e)))
+
+-- what the rest of the changes name is still to be put
+abbrev pub IsNaming : List Change → List Change → List Pair → Type 0
+IsNaming all rest pool = fold put pool (flat_map (λ (o : Op). o.attrs.pairs) (flat_map (λ (c : Change). c.runs) rest)) ≡ all_named all
+
+pub names_more : (all : List Change) (c : Change) (rest : List Change) (pool pool' : List Pair) → IsNaming all (c ∷ rest) pool
+    → pool' ≡ fold put pool (flat_map (λ (o : Op). o.attrs.pairs) c.runs) → IsNaming all rest pool'
+names_more all c rest pool pool' way is =
+    let named = λ (os : List Op). flat_map (λ (o : Op). o.attrs.pairs) os in
+    let later = flat_map (λ (c : Change). c.runs) rest in
+    ap (λ ps. fold put ps (named later)) is ∙ sym (fold_append pool (named c.runs) (named later)) ∙ ap (fold put pool) (sym (flat_map-append (λ (o : Op). o.attrs.pairs) c.runs later)) ∙ way
+
+-- the spellings of the rest of the changes are still to come, and the pool has their pairs
+abbrev pub IsSpelling : List Pair → List Change → List Change → List Text → Type 0
+IsSpelling pool all rest texts = (texts ++ map (printed pool) rest ≡ map (printed pool) all) × (list_all (λ (c : Change). has_pairs pool c.runs) rest ≡ true)
+
+pub spells_more : (pool : List Pair) (all : List Change) (c : Change) (rest : List Change) (texts : List Text) → IsSpelling pool all (c ∷ rest) texts
+    → IsSpelling pool all rest (texts ++ printed pool c ∷ [])
+spells_more pool all c rest texts way =
+    (append_assoc texts (printed pool c ∷ []) (map (printed pool) rest) ∙ way.0, second_true (has_pairs pool c.runs) _ way.1)
+
+all_there : (pool : List Pair) (cs : List Change) → has_pairs pool (flat_map (λ (c : Change). c.runs) cs) ≡ true → list_all (λ (c : Change). has_pairs pool c.runs) cs ≡ true
+all_there pool [] h = refl
+all_there pool (c ∷ cs) h =
+    let parts = sym (list_all-append (λ (o : Op). list_all (has pool) o.attrs.pairs) c.runs (flat_map (λ (c : Change). c.runs) cs)) ∙ h in
+    both_true _ _ (first_true _ _ parts) (all_there pool cs (second_true (has_pairs pool c.runs) _ parts))
+
+-- the pool of all that changes name has the pairs of each
+pub all_named_there : (pool : List Pair) (cs : List Change) → pool ≡ all_named cs → list_all (λ (c : Change). has_pairs pool c.runs) cs ≡ true
+all_named_there pool cs is = all_there pool cs (ap (λ ps. has_pairs ps (flat_map (λ (c : Change). c.runs) cs)) is ∙ runs_there [] (flat_map (λ (c : Change). c.runs) cs))

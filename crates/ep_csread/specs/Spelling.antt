@@ -32,6 +32,10 @@ printed pool c = spelling (numbers_in pool) c
 abbrev pub pairs_named : List Op → List Pair
 pairs_named runs = fold put [] (flat_map (λ o. o.attrs.pairs) runs)
 
+-- the pairs that changes name, in one pool for all of them
+abbrev pub all_named : List Change → List Pair
+all_named changes = pairs_named (flat_map (λ c. c.runs) changes)
+
 -- runs alone, without lengths and bank
 abbrev pub ops_text : List Pair → List Op → Text
 ops_text pool runs = flat_map (λ o. op_text (numbers_in pool o.attrs) o) runs

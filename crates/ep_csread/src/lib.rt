@@ -17,6 +17,7 @@ mod read_again;
 mod reader;
 mod totals;
 mod wire;
+mod wires;
 mod written;
 
 pub use bad::ReadBad;
@@ -25,3 +26,4 @@ pub use printing::{has_pairs, print};
 pub use read_again::{attribs_are_read, printed_is_read, wire_is_read};
 pub use reader::{read, read_attribs};
 pub use wire::{Wire, for_wire, print_attribs};
+pub use wires::{Wires, for_wire_all};

@@ -1,6 +1,7 @@
 //! Changes in wire form: each with a pool of its own, of just the pairs that it names.
 
 ghost use Rattle.std.specs.Prelude.{◌≡◌, fold, IfOk, OnOk};
+ghost use Rattle.std.specs.List.{flat_map};
 ghost use Rattle.ep_attr.specs.Attrs.{pairs_of};
 ghost use Rattle.ep_pool.specs.Pool.{pair_of, put};
 ghost use Rattle.ep_cs.specs.Spelling.{old_len};
@@ -46,14 +47,22 @@ fn put_all(alloc: Global, attrs: &[Attr], pool: &mut Pool) -> Result<(), NoMemor
     Ok(())
 }
 
+/// Puts the pairs that operations name.
+pub(crate) fn put_ops(alloc: Global, ops: &[Op], pool: &mut Pool) -> Result<(), NoMemory>
+    ensures { OnOk result (pool.new.pairs ≡ fold put pool.old.pairs (flat_map (λ o. o.attrs.pairs) ops.now)) }
+{
+    for op in ops {
+        put_all(alloc, op.attrs.pairs(), pool)?;
+    }
+    Ok(())
+}
+
 /// The pool of just the pairs that operations name.
 fn pool_of(alloc: Global, ops: &[Op]) -> Result<Pool, NoMemory>
     ensures { IfOk result (λ pool. pool.pairs ≡ pairs_named ops.now) }
 {
     let mut pool = Pool::new(alloc);
-    for op in ops {
-        put_all(alloc, op.attrs.pairs(), &mut pool)?;
-    }
+    put_ops(alloc, ops, &mut pool)?;
     Ok(pool)
 }
 

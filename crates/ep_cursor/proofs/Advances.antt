@@ -8,7 +8,7 @@ use Rattle.ep_cursor.specs.declared.cursor.Head.{Head}
 use Rattle.ep_cursor.specs.Heads.{IsHead}
 use Rattle.ep_cursor.specs.Left.{Left, steps_left, first_units, first_lines, first_inserted, cut, advanced}
 use Rattle.ep_cursor.specs.Said.{AreSaid, IsRest}
-use Rattle.ep_cursor.proofs.Cuts.{cut_steps, said_cut}
+use Rattle.ep_cursor.proofs.Lefts.{left_cut, left_said, first_is}
 
 -- of the first run, which is o, so many units and newlines are left out
 pub record IsTaken (l l' : Left) (o : Op) (k lines : ℕ) : Type 0 where
@@ -18,18 +18,11 @@ pub record IsTaken (l l' : Left) (o : Op) (k lines : ℕ) : Type 0 where
 
 pub taken_steps : (l l' : Left) (o : Op) (k lines : ℕ) → IsTaken l l' o k lines → steps_left l ≡ run_steps o.kind k o.attrs (take (inserted o.kind k) l.bank) ++ steps_left l'
 taken_steps l l' o k lines t =
-    let front = run_steps o.kind k o.attrs (take (inserted o.kind k) l.bank) in
-    ap (λ ops. steps_of ops l.bank ++ rest_kept l.rest) t.first
-    ∙ cut_steps o (drop 1 l.ops) l.bank l.rest k lines t.within
-    ∙ ap (λ ops. front ++ (steps_of (cut k lines ops) (drop (first_inserted k ops) l.bank) ++ rest_kept l.rest)) (sym t.first)
-    ∙ ap (λ x. front ++ steps_left x) (sym t.is)
+    left_cut l o (drop 1 l.ops) k lines t.first t.within
+    ∙ ap (λ x. run_steps o.kind k o.attrs (take (inserted o.kind k) l.bank) ++ steps_left x) (sym t.is)
 
 pub taken_said : (l l' : Left) (o : Op) (k lines : ℕ) (us : Text) → IsTaken l l' o k lines → (k < o.units → IsRest o l.bank us k lines) → AreSaid l.ops l.bank us → AreSaid l'.ops l'.bank (drop (passed o.kind k) us)
-taken_said l l' o k lines us t rest said =
-    let here : AreSaid (o ∷ drop 1 l.ops) l.bank us = subst (λ ops. AreSaid ops l.bank us) t.first said in
-    let later : AreSaid (cut k lines (o ∷ drop 1 l.ops)) (drop (inserted o.kind k) l.bank) (drop (passed o.kind k) us) = said_cut o (drop 1 l.ops) l.bank us k lines here t.within rest in
-    let back : AreSaid (cut k lines l.ops) (drop (first_inserted k l.ops) l.bank) (drop (passed o.kind k) us) = subst (λ ops. AreSaid (cut k lines ops) (drop (first_inserted k ops) l.bank) (drop (passed o.kind k) us)) (sym t.first) later in
-    subst (λ x. AreSaid x.ops x.bank (drop (passed o.kind k) us)) (sym t.is) back
+taken_said l l' o k lines us t rest said = subst (λ x. AreSaid x.ops x.bank (drop (passed o.kind k) us)) (sym t.is) (left_said l o (drop 1 l.ops) us k lines t.first t.within said rest)
 
 pub taken_bank : (l l' : Left) (o : Op) (k lines : ℕ) → IsTaken l l' o k lines → l'.bank ≡ drop (inserted o.kind k) l.bank
 taken_bank l l' o k lines t = ap (λ (x : Left). x.bank) t.is ∙ ap (λ ops. drop (first_inserted k ops) l.bank) t.first
@@ -39,7 +32,7 @@ abbrev pub as_kind : Kind → Head → Op
 as_kind k h = record { kind = k; units = h.units; lines = h.lines; attrs = h.attrs.now }
 
 pub head_first : (k : Kind) (h : Head) (l : Left) → IsHead h l → h.kind ≡ k → l.ops ≡ as_kind k h ∷ drop 1 l.ops
-head_first k h l is e = is.first ∙ ap (λ k. as_kind k h ∷ drop 1 l.ops) e
+head_first k h l is e = first_is h l k is e
 
 pub head_units : (h : Head) (l : Left) → IsHead h l → (first_units l.ops ≡ h.units) × (first_lines l.ops ≡ h.lines)
 head_units h l is = (ap first_units is.first, ap first_lines is.first)

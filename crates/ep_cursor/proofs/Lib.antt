@@ -3,7 +3,6 @@ pub mod Lined
 pub mod Cuts
 pub mod Made
 pub mod Lefts
-pub mod Documents
 pub mod Starts
 pub mod Advances
 pub mod TrueDrafts

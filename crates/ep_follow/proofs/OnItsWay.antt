@@ -1,5 +1,5 @@
 -- A change on its way through the changes made since.
-use Rattle.std.proofs.Common.{◌≡◌, true, ℕ, suc, ◌+◌, ◌<◌, List, [], ◌∷◌, ◌++◌, length, drop, refl, sym, ap, ◌∙◌, subst, arith}
+use Rattle.std.proofs.Common.{◌≡◌, true, List, [], ◌∷◌, ◌++◌, refl, ap, ◌∙◌, subst}
 use Rattle.ep_cs.specs.Doc.{Doc, text_of}
 use Rattle.ep_cs.specs.Edit.{Edit, apply}
 use Rattle.ep_cs.specs.Change.{Change, stamped}
@@ -8,7 +8,7 @@ use Rattle.ep_cs.specs.Follow.{follow}
 use Rattle.ep_cs.specs.Rebase.{rebase}
 use Rattle.ep_cs.specs.declared.bad.First.TheVariants as first
 use Rattle.ep_follow.specs.Follows.{Follows}
-use Rattle.ep_follow.specs.Rebased.{AreMade, after_all, edits_of}
+use Rattle.ep_cs.specs.Made.{AreMade, after_all, edits_of}
 
 -- the change stands before the rest of those made since
 pub record IsBefore (all rest : List Change) (begun now : Change) (doc : Doc) : Type 0 where

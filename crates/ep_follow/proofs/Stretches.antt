@@ -1,6 +1,6 @@
 -- Places of one run in both changes.
-use Rattle.std.proofs.Common.{◌≡◌, ℕ, zero, suc, ◌+◌, ◌-◌, ◌<◌, ◌≤◌, Bool, false, ◌⊎◌, inl, inr, List, [], ◌∷◌, ◌++◌, length, take, drop, replicate, refl, sym, ap, ◌∙◌, subst, T, arith, append_assoc, length-append, length-take-le, take-take}
-use Rattle.std.proofs.lemmas.List.{length-map, length-replicate, replicate-append-replicate}
+use Rattle.std.proofs.Common.{◌≡◌, ℕ, zero, suc, ◌+◌, ◌-◌, ◌<◌, ◌≤◌, Bool, false, List, [], ◌∷◌, ◌++◌, length, take, drop, replicate, refl, sym, ap, ◌∙◌, subst, T, arith, append_assoc, length-append, length-take-le}
+use Rattle.std.proofs.lemmas.List.{length-replicate, replicate-append-replicate}
 use Rattle.ep_units.specs.Text.{Text}
 use Rattle.ep_attr.specs.AttrMap.{AttrMap, none, rest}
 use Rattle.ep_cs.specs.Edit.{Fate, Step}
@@ -21,10 +21,9 @@ use Rattle.ep_cursor.specs.Left.{Left, steps_left, advanced, skipped}
 use Rattle.ep_cursor.specs.Made.{text_made, given}
 use Rattle.ep_cursor.specs.Said.{source, IsSaid, AreSaid}
 use Rattle.ep_cursor.specs.TrueDraft.{IsTrueDraft}
-use Rattle.ep_cursor.proofs.Cuts.{newlines_take}
 use Rattle.ep_cursor.proofs.Made.{passed-append, passed_times, text_kept, given-append, given_kept, given_dropped}
 use Rattle.ep_cursor.specs.Part.{IsShorter}
-use Rattle.ep_cursor.proofs.Parts.{inside_first, inside_second, lines_front, lines_wide, piece}
+use Rattle.ep_cursor.proofs.Parts.{inside_first, inside_second, lines_front, piece}
 use Rattle.ep_cursor.proofs.Lined.{lined_within, IsPiece}
 use Rattle.ep_cursor.proofs.Advances.{IsTaken, taken_steps, taken_said, taken_bank}
 use Rattle.ep_cursor.proofs.TrueDrafts.{GoesOn, true_keep, true_drop}

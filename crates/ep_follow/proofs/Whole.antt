@@ -25,7 +25,7 @@ use Rattle.ep_cs.proofs.Pairs.{follow_keeps_pairs}
 use Rattle.ep_cs.proofs.Plain.{length-text_of}
 use Rattle.ep_cursor.specs.Left.{Left, left_of, steps_left}
 use Rattle.ep_cursor.specs.Made.{text_made, given}
-use Rattle.ep_cursor.proofs.Documents.{documents-append, AreBlocks, blocks, pieces_of}
+use Rattle.ep_cs.proofs.Documents.{documents-append, AreBlocks, blocks, pieces_of}
 use Rattle.ep_cursor.proofs.Made.{passed-append, passed_times, length-run}
 use Rattle.ep_cursor.proofs.Starts.{edit_left, passed_left, given_left, text_left, said_left}
 use Rattle.ep_cursor.proofs.TrueDrafts.{true_blank, true_drafted}

@@ -1,4 +1,3 @@
 pub mod Follows
 pub mod Gaps
 pub mod Following
-pub mod Rebased

@@ -22,7 +22,7 @@ fn written(alloc: Global, a: &Change, b: &Change, first: First) -> Result<Builde
     if b.bank().len() > room as usize {
         return Err(NoMemory);
     }
-    let mut out = Builder::new(alloc, a.new_len());
+    let mut out = Builder::with_room_of(alloc, a.new_len(), a, b)?;
     let mut left = Cursor::new(a);
     let mut right = Cursor::new(b);
     walk(alloc, &mut out, &mut left, &mut right, first)?;

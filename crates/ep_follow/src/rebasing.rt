@@ -5,7 +5,7 @@ ghost use Rattle.ep_cs.specs.Doc.{Doc, text_of};
 ghost use Rattle.ep_cs.specs.Change.{stamped};
 ghost use Rattle.ep_cs.specs.Fits.{Fits};
 ghost use Rattle.ep_cs.specs.Rebase.{rebase};
-ghost use Rattle.ep_follow.specs.Rebased.{AreMade, after_all, edits_of};
+ghost use Rattle.ep_cs.specs.Made.{AreMade, after_all, edits_of};
 
 use crate::following::follow;
 use ep_cs::{Change, First};

@@ -2,8 +2,10 @@ use Rattle.std.proofs.Common.{◌≡◌, ◌∙◌, ℕ, ◌+◌, ◌-◌, ◌<�
 use Rattle.std.proofs.lemmas.List.{take_rest}
 use Rattle.ep_attr.specs.AttrMap.{none}
 use Rattle.ep_cs.specs.Doc.{dressed}
+use Rattle.ep_cs.specs.Edit.{apply}
 use Rattle.ep_cs.specs.Runs.{passed, inserted}
 use Rattle.ep_apply.specs.Made.{run_makes}
+use Rattle.ep_apply.proofs.Documents.{document_is, document_made}
 use Rattle.ep_apply.proofs.Walk.{walk_of, begin, go_on, run_short, over_all, end_short}
 use Rattle.ep_apply.proofs.applying.edited.Goals as goal
 
@@ -39,3 +41,13 @@ returns c =
     let n : c.len.result - at ≡ length c.args.doc.now - at = ap (λ (k : ℕ). k - at) c.len.ensures in
     c.finish.ensures ∙ over_all c.args.change.now c.args.doc.now c.ops-op-items.result.now c.as_slice-bank.result.now out c.loop-op.making.rest c.keep.new.self.done c.loop-op.op-index at c.loop-op.used w c.loop-op.invariant (omega arith)
     (c.in_ok-keep.ensures.done ∙ (λ i. out ++ map (λ d. dressed d (c.none-as_it_is.ensures i)) (take (n i) (c.loop-op.invariant.rest_is i))) ∙ ap (λ cs. out ++ map (λ d. dressed d none) cs) (take_rest c.args.doc.now at))
+
+pub invariant_of-result : goal.invariant_of-result
+invariant_of-result c =
+    let w = walk_of c.args.change.now c.args.doc.now c.ops-op-items.result.now c.as_slice-bank.result.now c.ops-op-items.ensures.normal c.requires c.ops-op-items.ensures.runs (c.as_slice-bank.ensures ∙ c.bank.ensures) in
+    let at = c.loop-op.at in
+    let out = c.loop-op.making.done in
+    let n : c.len.result - at ≡ length c.args.doc.now - at = ap (λ (k : ℕ). k - at) c.len.ensures in
+    document_is (apply c.args.change.now.edit c.args.doc.now) c.finish.result.cells (document_made c.args.change.now c.args.doc.now c.ops-op-items.ensures.normal c.requires c.in_ok-making.ensures.document)
+    (c.finish.ensures ∙ over_all c.args.change.now c.args.doc.now c.ops-op-items.result.now c.as_slice-bank.result.now out c.loop-op.making.rest c.keep.new.self.done c.loop-op.op-index at c.loop-op.used w c.loop-op.invariant (omega arith)
+    (c.in_ok-keep.ensures.done ∙ (λ i. out ++ map (λ d. dressed d (c.none-as_it_is.ensures i)) (take (n i) (c.loop-op.invariant.rest_is i))) ∙ ap (λ cs. out ++ map (λ d. dressed d none) cs) (take_rest c.args.doc.now at)))

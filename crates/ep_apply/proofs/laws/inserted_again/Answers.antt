@@ -1,4 +1,4 @@
-use Rattle.ep_apply.proofs.Stays.{inserted_again, insertion_fits}
+use Rattle.ep_apply.proofs.Again.{inserted_again, insertion_fits}
 use Rattle.ep_apply.proofs.laws.inserted_again.Goals as goal
 
 pub returns : goal.returns

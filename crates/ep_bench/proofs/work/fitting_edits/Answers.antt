@@ -1,4 +1,4 @@
-use Rattle.std.proofs.Common.{◌≡◌, zero, suc, [], ◌∷◌, ◌++◌, List, sym, subst, arith, rules}
+use Rattle.std.proofs.Common.{zero, suc, [], ◌∷◌, List, sym, subst, arith, rules}
 use Rattle.std.proofs.lemmas.List.Elements.{All-append}
 use Rattle.std.specs.List.{All}
 use Rattle.ep_cs.specs.Fits.{Fits}

@@ -1,16 +1,16 @@
-use Rattle.std.proofs.Common.{◌≡◌, [], true, false, MatchBool, true≢false, refl, sym, ap, ◌∙◌, subst}
+use Rattle.std.proofs.Common.{true≢false, sym, ◌∙◌, subst}
 use Rattle.std.proofs.lemmas.Result.{IfOk-weaker}
 use Rattle.ep_cs.specs.Draft.{Draft, blank}
 use Rattle.ep_cursor.specs.Left.{Left, left_of}
-use Rattle.ep_compose.specs.Composing.{IsComposing, Advances, IsAll}
-use Rattle.ep_compose.proofs.Ends.{starts, goes_on, all_done, ends_short, ends_whole, composed, composed_fits}
+use Rattle.ep_compose.specs.Composing.{IsComposing}
+use Rattle.ep_compose.proofs.Ends.{starts, all_done, ends_short, ends_whole, composed, composed_fits}
 use Rattle.ep_compose.proofs.composing.compose.Goals as goal
 
 -- src/composing.rt:26:5
 pub pieces-init : goal.pieces-init
 pieces-init c = (
   subst (λ (x : Draft × (Left × Left)). IsComposing c.args.first.now c.args.second.now x.0 x.1.0 x.1.1)
-      (λ i. (sym c.new-out.ensures i, (sym c.new-a.ensures.left i, sym c.new-b.ensures.left i)))
+      (λ i. (sym c.in_ok-out.ensures i, (sym c.new-a.ensures.left i, sym c.new-b.ensures.left i)))
       (subst (λ n. IsComposing c.args.first.now c.args.second.now (blank n) (left_of c.args.first.now) (left_of c.args.second.now)) (sym c.old_len.ensures)
       (starts c.args.first.now c.args.second.now c.new-a.ensures.normal c.new-b.ensures.normal c.requires.0 c.requires.1 c.requires.2)),
   λ e. absurd (true≢false e),

@@ -2,7 +2,7 @@ use Rattle.std.proofs.Common.{drop, refl}
 use Rattle.ep_cs.specs.Draft.{dropping}
 use Rattle.ep_cs.specs.declared.op.Kind.TheVariants as kind
 use Rattle.ep_cursor.proofs.Lefts.{first_is}
-use Rattle.ep_compose.proofs.Heads.{IsNew, moved, new_head, first_some, second_some, dropped_lines, later_lines, dropped_says, rest_is_dropped, IsPart, kept_part, inserted_part}
+use Rattle.ep_compose.proofs.Heads.{IsNew, moved, new_head, first_some, second_some, dropped_lines, later_lines, dropped_says, rest_is_dropped, kept_part, inserted_part}
 use Rattle.ep_compose.proofs.Moves.{first_drops, rest_then_dropped}
 use Rattle.ep_cursor.proofs.Parts.{some_shorter}
 use Rattle.ep_compose.proofs.Boths.{kept_then_dropped, inserted_then_dropped}

@@ -1,10 +1,9 @@
-use Rattle.std.proofs.Common.{◌≡◌, ◌≤◌, drop, take, length, refl, sym, ap, ap₂, ◌∙◌}
-use Rattle.std.proofs.lemmas.List.{length-take-le}
+use Rattle.std.proofs.Common.{◌≡◌, drop, take, refl, ap, ap₂, ◌∙◌}
 use Rattle.ep_attr.specs.AttrMap.{join, after}
 use Rattle.ep_cs.specs.Draft.{keeping, dropping, inserting}
 use Rattle.ep_cs.specs.declared.op.Kind.TheVariants as kind
 use Rattle.ep_cursor.proofs.Lefts.{first_is}
-use Rattle.ep_compose.proofs.Heads.{IsNew, moved, new_head, first_some, second_some, dropped_lines, later_lines, kept_says, rest_is_kept, IsPart, kept_part, inserted_part, part_text, room_for_kept, part_length}
+use Rattle.ep_compose.proofs.Heads.{IsNew, moved, new_head, first_some, second_some, dropped_lines, later_lines, kept_says, rest_is_kept, kept_part, inserted_part, part_text, room_for_kept, part_length}
 use Rattle.ep_compose.proofs.Moves.{first_drops, rest_then_kept}
 use Rattle.ep_cursor.proofs.Parts.{some_shorter, inside_first, inside_second}
 use Rattle.ep_compose.proofs.Boths.{kept_then_kept, inserted_then_kept}

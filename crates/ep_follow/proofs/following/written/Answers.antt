@@ -15,16 +15,16 @@ walk-requires c =
     let room : new_len a.edit + length (bank_of b.edit) < 2 ^ 32 = omega (arith, c.if-len-room.false, c.new_len-room.ensures, c.len.ensures, ap length c.bank.ensures, c.new-left.ensures.normal.new) in
     let made = text_of (apply a.edit c.requires.0) in (
       made,
-      started made a b c.new-out.result c.new-left.result c.new-right.result (c.new-out.ensures ∙ ap blank c.new_len.ensures) c.new-left.ensures.left c.new-right.ensures.left
+      started made a b c.in_ok-out.out c.new-left.result c.new-right.result (c.in_ok-out.ensures ∙ ap blank c.new_len.ensures) c.new-left.ensures.left c.new-right.ensures.left
           (under_way a b c.new-left.ensures.normal c.new-right.ensures.normal c.requires.0 c.requires.1 c.requires.2 room),
     )
 
 pub returns : goal.returns
 returns c =
-    let w : IsWalked (is_a c.args.first) c.args.a.now c.args.b.now c.new-out.result c.walk.new.out c.new-left.result c.new-right.result c.walk.new.a c.walk.new.b = record {
+    let w : IsWalked (is_a c.args.first) c.args.a.now c.args.b.now c.in_ok-out.out c.walk.new.out c.new-left.result c.new-right.result c.walk.new.a c.walk.new.b = record {
       first_normal = c.new-left.ensures.normal;
       second_normal = c.new-right.ensures.normal;
-      begins = c.new-out.ensures ∙ ap blank c.new_len.ensures;
+      begins = c.in_ok-out.ensures ∙ ap blank c.new_len.ensures;
       first = c.new-left.ensures.left;
       second = c.new-right.ensures.left;
       room = omega (arith, c.if-len-room.false, c.new_len-room.ensures, c.len.ensures, ap length c.bank.ensures, c.new-left.ensures.normal.new);
@@ -32,4 +32,4 @@ returns c =
       done = c.in_ok-walk.ensures.done;
       go = c.in_ok-walk.ensures.go;
     } in
-    walked_follows (is_a c.args.first) c.args.a.now c.args.b.now c.new-out.result c.walk.new.out c.new-left.result c.new-right.result c.walk.new.a c.walk.new.b w
+    walked_follows (is_a c.args.first) c.args.a.now c.args.b.now c.in_ok-out.out c.walk.new.out c.new-left.result c.new-right.result c.walk.new.a c.walk.new.b w

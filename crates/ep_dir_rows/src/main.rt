@@ -1,0 +1,69 @@
+//! Worked calls of the directory over each of its keepers.
+//!
+//! Standard input is a script of calls. It is played on a map in memory, and each answer is printed; then on a
+//! table in a file, which has to answer the same; then on maps in memory of which one call fails, so that the
+//! calls of the keeper that each line makes are counted, and failures seen to change nothing. A line with
+//! ` : ` in it is a call on a map that holds one pair, which another program wrote.
+#![tactic(auto)]
+
+mod failing;
+mod lines;
+mod played;
+mod shown;
+
+use anyhow::Result;
+use ep_keep::MapKeeper;
+use ep_keep_sql::SqlKeeper;
+use std::fs;
+
+/// The lines of standard input, those with ` : ` in them apart.
+#[derive(Drop)]
+struct Script {
+    calls: Vec<String>,
+    foreign: Vec<String>,
+}
+
+fn read_script(rt: &HostRuntime) -> Result<Script> {
+    let mut calls = Vec::new(rt.alloc());
+    let mut foreign = Vec::new(rt.alloc());
+    for line in rt.lines(rt.alloc()) {
+        let line = line?;
+        if line.contains(" : ") {
+            foreign.push(line)?;
+        } else {
+            calls.push(line)?;
+        }
+    }
+    Ok(Script { calls, foreign })
+}
+
+fn print(rt: &HostRuntime, title: &str, lines: &[String]) -> Result<()> {
+    println!(rt; "{title}")?;
+    for line in lines {
+        println!(rt; "{}", line.as_str())?;
+    }
+    Ok(())
+}
+
+/// The keeper over a file of its own, which an earlier run may have left.
+fn file_keeper(rt: &HostRuntime) -> Result<SqlKeeper> {
+    for path in ["directory.db", "directory.db-wal"] {
+        if fs::exists(rt, path)? {
+            fs::remove_file(rt, path)?;
+        }
+    }
+    Ok(SqlKeeper::open(rt, "directory.db")?)
+}
+
+fn main(rt: HostRuntime) -> Result<()> {
+    let alloc = rt.alloc();
+    let script = read_script(&rt)?;
+    let in_memory = played::answers(alloc, MapKeeper::new(alloc, Vec::new(alloc)), &script.calls)?;
+    print(&rt, "in memory", &in_memory)?;
+    let in_a_file = played::answers(alloc, file_keeper(&rt)?, &script.calls)?;
+    print(&rt, "in a file", &in_a_file)?;
+    let counts = failing::counts(alloc, &script.calls, &in_memory)?;
+    print(&rt, "calls of the keeper", &counts)?;
+    let foreign = played::foreign_answers(alloc, &script.foreign)?;
+    print(&rt, "written by another", &foreign)
+}

@@ -1,0 +1,10 @@
+pub mod Writes
+pub mod Made
+pub mod Cut
+pub mod Answered
+pub mod Restored
+pub mod Undone
+pub mod Whole
+pub mod Pieces
+pub mod Walk
+pub mod Painted

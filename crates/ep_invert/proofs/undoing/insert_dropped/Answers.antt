@@ -1,0 +1,21 @@
+use Rattle.ep_apply.proofs.Pieces.{not_over}
+use Rattle.ep_invert.proofs.Pieces.{IsPiece, more_inserted, inserted_room}
+use Rattle.ep_invert.proofs.undoing.insert_dropped.Goals as goal
+
+pub returns-in_default-clause-written : goal.returns-in_default-clause-written
+returns-in_default-clause-written c = absurd (not_over c.args.units c.pieces.left c.args.rest.now c.pieces.rest c.requires.inside c.pieces.invariant.within c.pieces-test.true c.pieces.invariant.rest_is c.in_default.ensures.0)
+
+pub returns-in_default-clause-rest : goal.returns-in_default-clause-rest
+returns-in_default-clause-rest c = absurd (not_over c.args.units c.pieces.left c.args.rest.now c.pieces.rest c.requires.inside c.pieces.invariant.within c.pieces-test.true c.pieces.invariant.rest_is c.in_default.ensures.0)
+
+pub insert_text-requires : goal.insert_text-requires
+insert_text-requires c =
+    inserted_room c.args.units c.pieces.left c.args.rest.now c.args.out.now c.pieces.out c.pieces.rest _ c.pieces.invariant c.requires.inside c.requires.room c.in-Some.ensures.2
+
+pub pieces-preserved : goal.pieces-preserved
+pieces-preserved c =
+    let s = c.in-Some.stretch in
+    let p : IsPiece c.args.units c.pieces.left c.args.rest.now c.pieces.rest c.take.new.self s.attrs.now s.text.now =
+    record { rest_is = c.pieces.invariant.rest_is; piece = c.in-Some.ensures.0; some = c.in-Some.ensures.1; most = c.in-Some.ensures.2; within = c.pieces.invariant.within } in
+    more_inserted c.args.units c.pieces.left c.args.rest.now c.args.out.now c.pieces.out c.insert_text.new.out c.pieces.rest c.take.new.self s.attrs.now s.text.now
+    c.pieces.invariant p c.requires.maps c.in_ok-insert_text.ensures
