@@ -4,6 +4,8 @@
 //! table in a file, which has to answer the same; then on maps in memory of which one call fails, so that the
 //! calls of the keeper that each line makes are counted, and failures seen to change nothing. A line with
 //! ` : ` in it is a call on a map that holds one pair, which another program wrote.
+//!
+//! With the path of a file behind the program's name, the calls are played on that file's table alone, as it is there.
 #![tactic(auto)]
 
 mod failing;
@@ -14,7 +16,7 @@ mod shown;
 use anyhow::Result;
 use ep_keep::MapKeeper;
 use ep_keep_sql::SqlKeeper;
-use std::fs;
+use std::{env, fs};
 
 /// The lines of standard input, those with ` : ` in them apart.
 #[derive(Drop)]
@@ -55,15 +57,34 @@ fn file_keeper(rt: &HostRuntime) -> Result<SqlKeeper> {
     Ok(SqlKeeper::open(rt, "directory.db")?)
 }
 
-fn main(rt: HostRuntime) -> Result<()> {
+/// Plays a script on every keeper.
+fn play_all(rt: &HostRuntime, script: &Script) -> Result<()> {
     let alloc = rt.alloc();
-    let script = read_script(&rt)?;
     let in_memory = played::answers(alloc, MapKeeper::new(alloc, Vec::new(alloc)), &script.calls)?;
-    print(&rt, "in memory", &in_memory)?;
-    let in_a_file = played::answers(alloc, file_keeper(&rt)?, &script.calls)?;
-    print(&rt, "in a file", &in_a_file)?;
+    print(rt, "in memory", &in_memory)?;
+    let in_a_file = played::answers(alloc, file_keeper(rt)?, &script.calls)?;
+    print(rt, "in a file", &in_a_file)?;
     let counts = failing::counts(alloc, &script.calls, &in_memory)?;
-    print(&rt, "calls of the keeper", &counts)?;
+    print(rt, "calls of the keeper", &counts)?;
     let foreign = played::foreign_answers(alloc, &script.foreign)?;
-    print(&rt, "written by another", &foreign)
+    print(rt, "written by another", &foreign)
+}
+
+/// Plays a script on the table of a file, as it is there.
+fn play_on(rt: &HostRuntime, path: &str, script: &Script) -> Result<()> {
+    let keeper = SqlKeeper::open(rt, path)?;
+    print(
+        rt,
+        path,
+        &played::answers(rt.alloc(), keeper, &script.calls)?,
+    )
+}
+
+fn main(rt: HostRuntime) -> Result<()> {
+    let path = env::args(&rt)?.nth(1);
+    let script = read_script(&rt)?;
+    match path {
+        Some(path) => play_on(&rt, path.as_str(), &script),
+        None => play_all(&rt, &script),
+    }
 }
