@@ -13,7 +13,10 @@ impl PartialEq for AttrMap {
     ghost laws = { partial_equiv_from_equiv same_map_equiv };
 
     fn eq(&self, other: &AttrMap) -> bool {
-        self.pairs() == other.pairs()
+        match (self.pairs(), other.pairs()) {
+            ([], []) => true,
+            (pairs, others) => pairs == others,
+        }
     }
 }
 

@@ -21,7 +21,9 @@ pub fn compose(alloc: Global, first: &Change, second: &Change) -> Result<Change,
     ensures both { IfOk result (λ c. (doc : Doc) → Fits first.now doc → Fits second.now (apply first.now.edit doc) → c ≡ composed first.now second.now doc) }
     ensures fits { IfOk result (λ c. (doc : Doc) → Fits first.now doc → Fits second.now (apply first.now.edit doc) → Fits c doc) }
 {
-    let mut out = Builder::with_room_of(alloc, first.old_len(), first, second)?;
+    let runs = first.ops().len().saturating_add(second.ops().len());
+    let units = first.bank().len().saturating_add(second.bank().len());
+    let mut out = Builder::with_capacity(alloc, first.old_len(), runs, units)?;
     let mut a = Cursor::new(first);
     let mut b = Cursor::new(second);
     let mut more = true;

@@ -53,17 +53,15 @@ impl Builder {
         }
     }
 
-    /// Nothing written, with room for the runs and the inserted units of two changes.
-    pub fn with_room_of(
+    /// Nothing written, with room for so many runs and inserted units.
+    pub fn with_capacity(
         alloc: Global,
         old_len: u32,
-        a: &Change,
-        b: &Change,
+        runs: usize,
+        units: usize,
     ) -> Result<Builder, NoMemory>
         ensures { IfOk result (λ builder. builder ≡ blank old_len) }
     {
-        let runs = a.ops.len().saturating_add(b.ops.len()).saturating_add(1);
-        let units = a.bank.len().saturating_add(b.bank.len());
         Ok(Builder {
             alloc,
             old_len,

@@ -66,7 +66,7 @@ impl Op {
     pub fn joins(&self, next: &Op) -> bool
         ensures { result ≡ joins self.now next.now }
     {
-        self.kind.is(next.kind) && self.attrs == next.attrs && (next.lines > 0 || !(self.lines > 0))
+        self.kind.is(next.kind) && (next.lines > 0 || !(self.lines > 0)) && self.attrs == next.attrs
     }
 
     /// Whether the run is not written at the end.

@@ -22,7 +22,8 @@ fn written(alloc: Global, a: &Change, b: &Change, first: First) -> Result<Builde
     if b.bank().len() > room as usize {
         return Err(NoMemory);
     }
-    let mut out = Builder::with_room_of(alloc, a.new_len(), a, b)?;
+    let runs = a.ops().len().saturating_add(b.ops().len());
+    let mut out = Builder::with_capacity(alloc, a.new_len(), runs, b.bank().len())?;
     let mut left = Cursor::new(a);
     let mut right = Cursor::new(b);
     walk(alloc, &mut out, &mut left, &mut right, first)?;
