@@ -20,7 +20,7 @@ pub fn change_reply(alloc: Global, change: &Change) -> Result<Value, NoMemory> {
 /// A document with the pool of its attributes.
 pub fn doc_reply(alloc: Global, doc: &Doc) -> Result<Value, NoMemory> {
     let wire = print_attribs(alloc, &doc.as_insert(alloc)?)?;
-    let text = doc.text().to_text_lossy(alloc)?;
+    let text = doc.text(alloc)?.to_text_lossy(alloc)?;
     let attribs = wire.text.to_text_lossy(alloc)?;
     let pool = wire.pool.to_json(alloc)?;
     Ok(json!(in alloc; {"attribs": attribs, "pool": pool, "text": text})?)

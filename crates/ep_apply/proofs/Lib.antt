@@ -4,5 +4,5 @@ pub mod Ends
 pub mod Refusals
 pub mod Inserted
 pub mod Again
-pub mod Copying
+pub mod Blocks
 pub mod Documents

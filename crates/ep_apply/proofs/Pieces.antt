@@ -1,7 +1,6 @@
 -- Stretches of documents, taken and added piece by piece.
-use Rattle.std.proofs.Common.{◌≡◌, ℕ, zero, suc, ◌+◌, ◌-◌, ◌<◌, ◌≤◌, ◌==◌, Bool, true, false, List, [], ◌∷◌, ◌++◌, map, length, take, drop, get_or, if◌then◌else◌, refl, sym, ap, ap₂, ◌∙◌, subst, arith, append_assoc, append-nil, length-drop, take-append-drop, drop-drop}
-use Rattle.std.proofs.lemmas.Bool.Decides.{nat_tests}
-use Rattle.std.proofs.lemmas.List.{take-append-le, drop-append-le, length-map, length-take-le, map-append, get_or-take, take_more}
+use Rattle.std.proofs.Common.{◌≡◌, inl, inr, ℕ, ◌+◌, ◌-◌, ◌<◌, ◌≤◌, Bool, true, false, List, [], ◌∷◌, ◌++◌, map, length, take, drop, get_or, if◌then◌else◌, refl, sym, ap, ap₂, ◌∙◌, subst, arith, append_assoc, append-nil, length-drop, take-append-drop, drop-drop}
+use Rattle.std.proofs.lemmas.List.{take-append-le, drop-append-le, length-map, map-append}
 use Rattle.std.proofs.Math.Seq.{take-length, take-add}
 use Rattle.ep_units.specs.Text.{Text}
 use Rattle.ep_attr.specs.AttrMap.{AttrMap, none, after, is_none, same_map}
@@ -10,22 +9,22 @@ use Rattle.ep_attr.proofs.SameMap.{exact_map}
 use Rattle.ep_cs.specs.Doc.{Cell, text_of, dressed}
 use Rattle.ep_cs.specs.Runs.{cells}
 use Rattle.ep_apply.specs.declared.span.Span.{Span}
-use Rattle.ep_apply.specs.Spans.{map_at, Extends, cells_of, all_units, AreSpans, joined_on, first_units, left_of, left_units, AreLeft}
+use Rattle.ep_apply.specs.Spans.{Adds, cells_of, all_units, AreSpans, joined_on, first_units, left_of, left_units, AreLeft}
 
 text_cells : (m : AttrMap) (us : Text) → text_of (cells m us) ≡ us
 text_cells m [] = refl
 text_cells m (u ∷ us) = ap (λ vs. u ∷ vs) (text_cells m us)
 
-pub text_spans : (ms : List AttrMap) (ss : List Span) (us : Text) → all_units ss ≡ length us → text_of (cells_of ms ss us) ≡ us
-text_spans ms [] [] h = refl
-text_spans ms [] (u ∷ us) h = absurd (omega (arith, h))
-text_spans ms (s ∷ ss) us h =
-    map-append (λ (c : Cell). c.unit) (cells (map_at ms s.number) (take s.units us)) (cells_of ms ss (drop s.units us))
-    ∙ ap₂ (λ (a b : Text). a ++ b) (text_cells (map_at ms s.number) (take s.units us)) (text_spans ms ss (drop s.units us) (omega (arith, h, length-drop s.units us)))
+pub text_spans : (ss : List Span) (us : Text) → all_units ss ≡ length us → text_of (cells_of ss us) ≡ us
+text_spans [] [] h = refl
+text_spans [] (u ∷ us) h = absurd (omega (arith, h))
+text_spans (s ∷ ss) us h =
+    map-append (λ (c : Cell). c.unit) (cells s.attrs (take s.units us)) (cells_of ss (drop s.units us))
+    ∙ ap₂ (λ (a b : Text). a ++ b) (text_cells s.attrs (take s.units us)) (text_spans ss (drop s.units us) (omega (arith, h, length-drop s.units us)))
     ∙ take-append-drop s.units us
 
-pub length_spans : (ms : List AttrMap) (ss : List Span) (us : Text) → all_units ss ≡ length us → length (cells_of ms ss us) ≡ length us
-length_spans ms ss us h = sym (length-map (cells_of ms ss us) (λ (c : Cell). c.unit)) ∙ ap length (text_spans ms ss us h)
+pub length_spans : (ss : List Span) (us : Text) → all_units ss ≡ length us → length (cells_of ss us) ≡ length us
+length_spans ss us h = sym (length-map (cells_of ss us) (λ (c : Cell). c.unit)) ∙ ap length (text_spans ss us h)
 
 -- ---- more stretches
 
@@ -33,176 +32,121 @@ pub units-append : (ss ts : List Span) → all_units (ss ++ ts) ≡ all_units ss
 units-append [] ts = omega arith
 units-append (s ∷ ss) ts = omega (arith, units-append ss ts)
 
-pub spans-append : (n : ℕ) (ss ts : List Span) → AreSpans n ss → AreSpans n ts → AreSpans n (ss ++ ts)
-spans-append n [] ts h k = k
-spans-append n (s ∷ ss) ts h k = (h.0, h.1, spans-append n ss ts h.2 k)
+pub spans-append : (ss ts : List Span) → AreSpans ss → AreSpans ts → AreSpans (ss ++ ts)
+spans-append [] ts h k = k
+spans-append (s ∷ ss) ts h k = (h.0, spans-append ss ts h.1 k)
 
-pub cells-append : (ms : List AttrMap) (ss ts : List Span) (us vs : Text) → all_units ss ≡ length us → cells_of ms (ss ++ ts) (us ++ vs) ≡ cells_of ms ss us ++ cells_of ms ts vs
-cells-append ms [] ts [] vs h = refl
-cells-append ms [] ts (u ∷ us) vs h = absurd (omega (arith, h))
-cells-append ms (s ∷ ss) ts us vs h =
+pub cells-append : (ss ts : List Span) (us vs : Text) → all_units ss ≡ length us → cells_of (ss ++ ts) (us ++ vs) ≡ cells_of ss us ++ cells_of ts vs
+cells-append [] ts [] vs h = refl
+cells-append [] ts (u ∷ us) vs h = absurd (omega (arith, h))
+cells-append (s ∷ ss) ts us vs h =
     let room : s.units ≤ length us = omega (arith, h) in
-    let m = map_at ms s.number in
-    ap₂ (λ (a b : Text). cells m a ++ cells_of ms (ss ++ ts) b) (take-append-le s.units us vs room) (drop-append-le s.units us vs room)
-    ∙ ap (λ cs. cells m (take s.units us) ++ cs) (cells-append ms ss ts (drop s.units us) vs (omega (arith, h, length-drop s.units us)))
-    ∙ sym (append_assoc (cells m (take s.units us)) (cells_of ms ss (drop s.units us)) (cells_of ms ts vs))
+    let m = s.attrs in
+    ap₂ (λ (a b : Text). cells m a ++ cells_of (ss ++ ts) b) (take-append-le s.units us vs room) (drop-append-le s.units us vs room)
+    ∙ ap (λ cs. cells m (take s.units us) ++ cs) (cells-append ss ts (drop s.units us) vs (omega (arith, h, length-drop s.units us)))
+    ∙ sym (append_assoc (cells m (take s.units us)) (cells_of ss (drop s.units us)) (cells_of ts vs))
 
 cells-cut : (m : AttrMap) (us vs : Text) → cells m (us ++ vs) ≡ cells m us ++ cells m vs
 cells-cut m us vs = map-append (λ u. record { unit = u; attrs = m }) us vs
 
 -- one stretch, joined to the last where both have one map
-pub joined_units : (ss : List Span) (s : Span) → all_units (joined_on ss s) ≡ all_units ss + s.units
+joined_units : (ss : List Span) (s : Span) → all_units (joined_on ss s) ≡ all_units ss + s.units
 joined_units [] s = omega arith
-joined_units (t ∷ []) s = go (t.number == s.number)
+joined_units (t ∷ []) s = go (same_map t.attrs s.attrs)
   where
-    go : (b : Bool) → all_units (if b then record { units = t.units + s.units; number = s.number } ∷ [] else (t ∷ (s ∷ []))) ≡ t.units + 0 + s.units
+    go : (b : Bool) → all_units (if b then record { units = t.units + s.units; attrs = s.attrs } ∷ [] else (t ∷ (s ∷ []))) ≡ t.units + 0 + s.units
     go true = omega arith
     go false = omega arith
 joined_units (t ∷ (u ∷ ss)) s = omega (arith, joined_units (u ∷ ss) s)
 
-pub joined_spans : (n : ℕ) (ss : List Span) (s : Span) → AreSpans n ss → 1 ≤ s.units → s.number < n → AreSpans n (joined_on ss s)
-joined_spans n [] s h k l = (k, l, tt)
-joined_spans n (t ∷ []) s h k l = go (t.number == s.number)
+joined_spans : (ss : List Span) (s : Span) → AreSpans ss → 1 ≤ s.units → AreSpans (joined_on ss s)
+joined_spans [] s h k = (k, tt)
+joined_spans (t ∷ []) s h k = go (same_map t.attrs s.attrs)
   where
-    go : (b : Bool) → AreSpans n (if b then record { units = t.units + s.units; number = s.number } ∷ [] else (t ∷ (s ∷ [])))
-    go true = (omega arith, l, tt)
-    go false = (h.0, h.1, (k, l, tt))
-joined_spans n (t ∷ (u ∷ ss)) s h k l = (h.0, h.1, joined_spans n (u ∷ ss) s h.2 k l)
+    go : (b : Bool) → AreSpans (if b then record { units = t.units + s.units; attrs = s.attrs } ∷ [] else (t ∷ (s ∷ [])))
+    go true = (omega arith, tt)
+    go false = (h.0, (k, tt))
+joined_spans (t ∷ (u ∷ ss)) s h k = (h.0, joined_spans (u ∷ ss) s h.1 k)
 
-same_number : (a b : ℕ) → (a == b) ≡ true → a ≡ b
-same_number a b h = grind (arith, nat_tests)
-
-pub joined_cells : (ms : List AttrMap) (ss : List Span) (s : Span) (us : Text) → cells_of ms (joined_on ss s) us ≡ cells_of ms (ss ++ s ∷ []) us
-joined_cells ms [] s us = refl
-joined_cells ms (t ∷ []) s us = go (t.number == s.number) refl
+joined_cells : (ss : List Span) (s : Span) (us : Text) → cells_of (joined_on ss s) us ≡ cells_of (ss ++ s ∷ []) us
+joined_cells [] s us = refl
+joined_cells (t ∷ []) s us = go (same_map t.attrs s.attrs) refl
   where
-    go : (b : Bool) → (t.number == s.number) ≡ b → cells_of ms (if b then record { units = t.units + s.units; number = s.number } ∷ [] else (t ∷ (s ∷ []))) us ≡ cells_of ms (t ∷ (s ∷ [])) us
+    go : (b : Bool) → (same_map t.attrs s.attrs) ≡ b → cells_of (if b then record { units = t.units + s.units; attrs = s.attrs } ∷ [] else (t ∷ (s ∷ []))) us ≡ cells_of (t ∷ (s ∷ [])) us
     go true e =
-        append-nil _ ∙ ap (cells (map_at ms s.number)) (take-add t.units s.units us) ∙ cells-cut (map_at ms s.number) (take t.units us) (take s.units (drop t.units us))
-        ∙ ap (λ (k : ℕ). cells (map_at ms k) (take t.units us) ++ cells (map_at ms s.number) (take s.units (drop t.units us))) (sym (same_number t.number s.number e))
-        ∙ ap (λ cs. cells (map_at ms t.number) (take t.units us) ++ cs) (sym (append-nil _))
+        append-nil _ ∙ ap (cells s.attrs) (take-add t.units s.units us) ∙ cells-cut s.attrs (take t.units us) (take s.units (drop t.units us))
+        ∙ ap (λ (m : AttrMap). cells m (take t.units us) ++ cells s.attrs (take s.units (drop t.units us))) (sym (exact_map t.attrs s.attrs e))
+        ∙ ap (λ cs. cells t.attrs (take t.units us) ++ cs) (sym (append-nil _))
     go false e = refl
-joined_cells ms (t ∷ (u ∷ ss)) s us = ap (λ cs. cells (map_at ms t.number) (take t.units us) ++ cs) (joined_cells ms (u ∷ ss) s (drop t.units us))
-
-pub units_more : (ss : List Span) (i : ℕ) (s : Span) → i < length ss → s ≡ get_or ss i s → all_units (take (i + 1) ss) ≡ all_units (take i ss) + s.units
-units_more ss i s h e =
-    ap all_units (take_more ss i s h) ∙ units-append (take i ss) (get_or ss i s ∷ []) ∙ ap (λ (t : Span). all_units (take i ss) + (t.units + 0)) (sym e)
-    ∙ (let c : all_units (take i ss) + (s.units + 0) ≡ all_units (take i ss) + s.units = omega arith in c)
-
--- ---- more maps
-
-pub spans_up : (n k : ℕ) (ss : List Span) → n ≤ k → AreSpans n ss → AreSpans k ss
-spans_up n k [] h a = tt
-spans_up n k (s ∷ ss) h a = (a.0, omega (arith, h, a.1), spans_up n k ss h a.2)
-
-pub left_up : (n k : ℕ) (ss : List Span) (left : ℕ) → n ≤ k → AreLeft n ss left → AreLeft k ss left
-left_up n k [] left h a = tt
-left_up n k (s ∷ ss) left h a = (a.0, omega (arith, h, a.1), spans_up n k ss h a.2)
-
-pub same_at : (ms ns : List AttrMap) (k : ℕ) → Extends ms ns → k < length ms → map_at ns k ≡ map_at ms k
-same_at ms ns k e h = sym (get_or-take (length ms) ns k none h) ∙ ap (λ ls. map_at ls k) e.begins
-
-pub extended_cells : (ms ns : List AttrMap) (ss : List Span) (us : Text) → Extends ms ns → AreSpans (length ms) ss → cells_of ns ss us ≡ cells_of ms ss us
-extended_cells ms ns [] us e a = refl
-extended_cells ms ns (s ∷ ss) us e a =
-    ap₂ (λ (m : AttrMap) (cs : List Cell). cells m (take s.units us) ++ cs) (same_at ms ns s.number e a.1) (extended_cells ms ns ss (drop s.units us) e a.2)
-
-pub extended_left : (ms ns : List AttrMap) (ss : List Span) (left : ℕ) (us : Text) → Extends ms ns → AreLeft (length ms) ss left → left_of ns ss left us ≡ left_of ms ss left us
-extended_left ms ns [] left us e a = refl
-extended_left ms ns (s ∷ ss) left us e a =
-    ap₂ (λ (m : AttrMap) (cs : List Cell). cells m (take left us) ++ cs) (same_at ms ns s.number e a.1) (extended_cells ms ns ss (drop left us) e a.2)
+joined_cells (t ∷ (u ∷ ss)) s us = ap (λ cs. cells t.attrs (take t.units us) ++ cs) (joined_cells (u ∷ ss) s (drop t.units us))
 
 -- ---- what is left
 
-pub all_left : (ms : List AttrMap) (ss : List Span) (us : Text) → left_of ms ss (first_units ss) us ≡ cells_of ms ss us
-all_left ms [] us = refl
-all_left ms (s ∷ ss) us = refl
+pub all_left : (ss : List Span) (us : Text) → left_of ss (first_units ss) us ≡ cells_of ss us
+all_left [] us = refl
+all_left (s ∷ ss) us = refl
 
 pub all_left_units : (ss : List Span) → left_units ss (first_units ss) ≡ all_units ss
 all_left_units [] = refl
 all_left_units (s ∷ ss) = refl
 
-pub all_are_left : (n : ℕ) (ss : List Span) → AreSpans n ss → AreLeft n ss (first_units ss)
-all_are_left n [] h = tt
-all_are_left n (s ∷ ss) h = h
+pub all_are_left : (ss : List Span) → AreSpans ss → AreLeft ss (first_units ss)
+all_are_left [] h = tt
+all_are_left (s ∷ ss) h = h
 
-pub are_left_all : (n : ℕ) (ss : List Span) → AreLeft n ss (first_units ss) → AreSpans n ss
-are_left_all n [] h = tt
-are_left_all n (s ∷ ss) h = h
+pub are_left_all : (ss : List Span) → AreLeft ss (first_units ss) → AreSpans ss
+are_left_all [] h = tt
+are_left_all (s ∷ ss) h = h
 
-pub length_left : (ms : List AttrMap) (ss : List Span) (left : ℕ) (us : Text) → left_units ss left ≡ length us → length (left_of ms ss left us) ≡ length us
-length_left ms [] left us h = h
-length_left ms (s ∷ ss) left us h = length_spans ms (record { units = left; number = s.number } ∷ ss) us h
+pub length_left : (ss : List Span) (left : ℕ) (us : Text) → left_units ss left ≡ length us → length (left_of ss left us) ≡ length us
+length_left [] left us h = h
+length_left (s ∷ ss) left us h = length_spans (record { units = left; attrs = s.attrs } ∷ ss) us h
 
 -- a piece of the first stretch
-pub piece_of : (ms : List AttrMap) (s : Span) (ss : List Span) (left k : ℕ) (us : Text) → k ≤ left
-    → left_of ms (s ∷ ss) left us ≡ cells (map_at ms s.number) (take k us) ++ left_of ms (s ∷ ss) (left - k) (drop k us)
-piece_of ms s ss left k us h =
-    let m = map_at ms s.number in
+pub piece_of : (s : Span) (ss : List Span) (left k : ℕ) (us : Text) → k ≤ left
+    → left_of (s ∷ ss) left us ≡ cells s.attrs (take k us) ++ left_of (s ∷ ss) (left - k) (drop k us)
+piece_of s ss left k us h =
+    let m = s.attrs in
     let n : left ≡ k + (left - k) = omega (arith, h) in
-    ap (λ (n : ℕ). cells m (take n us) ++ cells_of ms ss (drop n us)) n
-    ∙ ap₂ (λ (cs : List Cell) (vs : Text). cs ++ cells_of ms ss vs) (ap (cells m) (take-add k (left - k) us) ∙ cells-cut m (take k us) (take (left - k) (drop k us))) (sym (drop-drop (left - k) k us))
-    ∙ append_assoc (cells m (take k us)) (cells m (take (left - k) (drop k us))) (cells_of ms ss (drop (left - k) (drop k us)))
+    ap (λ (n : ℕ). cells m (take n us) ++ cells_of ss (drop n us)) n
+    ∙ ap₂ (λ (cs : List Cell) (vs : Text). cs ++ cells_of ss vs) (ap (cells m) (take-add k (left - k) us) ∙ cells-cut m (take k us) (take (left - k) (drop k us))) (sym (drop-drop (left - k) k us))
+    ∙ append_assoc (cells m (take k us)) (cells m (take (left - k) (drop k us))) (cells_of ss (drop (left - k) (drop k us)))
 
 pub headed : (ss : List Span) (s : Span) → 1 ≤ length ss → s ≡ get_or ss 0 s → ss ≡ s ∷ drop 1 ss
 headed [] s h e = absurd (omega (arith, h))
 headed (t ∷ ss) s h e = ap (λ t. t ∷ ss) (sym e)
 
-pub some_left : (n : ℕ) (ss : List Span) (left : ℕ) → 1 ≤ length ss → AreLeft n ss left → 1 ≤ left
-some_left n [] left h l = absurd (omega (arith, h))
-some_left n (s ∷ ss) left h l = l.0
-
-pub number_left : (n : ℕ) (ss : List Span) (s : Span) (left : ℕ) → 1 ≤ length ss → s ≡ get_or ss 0 s → AreLeft n ss left → s.number < n
-number_left n [] s left h e l = absurd (omega (arith, h))
-number_left n (t ∷ ss) s left h e l = subst (λ (t : Span). t.number < n) (sym e) l.1
+pub some_left : (ss : List Span) (left : ℕ) → 1 ≤ length ss → AreLeft ss left → 1 ≤ left
+some_left [] left h l = absurd (omega (arith, h))
+some_left (s ∷ ss) left h l = l.0
 
 -- the first stretch is shorter, or gone
-pub less_left : (n : ℕ) (ss : List Span) (left k : ℕ) → AreLeft n ss left → k < left → AreLeft n ss (left - k)
-less_left n [] left k a h = tt
-less_left n (s ∷ ss) left k a h = (omega (arith, h), a.1, a.2)
+pub less_left : (ss : List Span) (left k : ℕ) → AreLeft ss left → k < left → AreLeft ss (left - k)
+less_left [] left k a h = tt
+less_left (s ∷ ss) left k a h = (omega (arith, h), a.1)
 
 pub less_units : (ss : List Span) (left k : ℕ) (us : Text) → 1 ≤ length ss → left_units ss left ≡ length us → k ≤ left → left_units ss (left - k) ≡ length (drop k us)
 less_units [] left k us some h l = absurd (omega (arith, some))
 less_units (s ∷ ss) left k us some h l = omega (arith, h, l, length-drop k us)
 
-pub later_left : (n : ℕ) (ss : List Span) (left : ℕ) → AreLeft n ss left → AreLeft n (drop 1 ss) (first_units (drop 1 ss))
-later_left n [] left a = tt
-later_left n (s ∷ ss) left a = all_are_left n ss a.2
+pub later_left : (ss : List Span) (left : ℕ) → AreLeft ss left → AreLeft (drop 1 ss) (first_units (drop 1 ss))
+later_left [] left a = tt
+later_left (s ∷ ss) left a = all_are_left ss a.1
 
 pub later_units : (ss : List Span) (left : ℕ) (us : Text) → left_units ss left ≡ length us → left_units (drop 1 ss) (first_units (drop 1 ss)) ≡ length (drop left us)
 later_units [] left us h = omega (arith, h, length-drop left us)
 later_units (s ∷ ss) left us h = all_left_units ss ∙ (let e : all_units ss ≡ length (drop left us) = omega (arith, h, length-drop left us) in e)
 
-pub piece_at : (ms : List AttrMap) (ss : List Span) (s : Span) (left k : ℕ) (us : Text) → 1 ≤ length ss → s ≡ get_or ss 0 s → k ≤ left
-    → left_of ms ss left us ≡ cells (map_at ms s.number) (take k us) ++ left_of ms ss (left - k) (drop k us)
-piece_at ms ss s left k us h e l =
+pub piece_at : (ss : List Span) (s : Span) (left k : ℕ) (us : Text) → 1 ≤ length ss → s ≡ get_or ss 0 s → k ≤ left
+    → left_of ss left us ≡ cells s.attrs (take k us) ++ left_of ss (left - k) (drop k us)
+piece_at ss s left k us h e l =
     let is = headed ss s h e in
-    ap (λ ss. left_of ms ss left us) is ∙ piece_of ms s (drop 1 ss) left k us l ∙ ap (λ ss. cells (map_at ms s.number) (take k us) ++ left_of ms ss (left - k) (drop k us)) (sym is)
+    ap (λ ss. left_of ss left us) is ∙ piece_of s (drop 1 ss) left k us l ∙ ap (λ ss. cells s.attrs (take k us) ++ left_of ss (left - k) (drop k us)) (sym is)
 
-pub piece_to_end : (ms : List AttrMap) (ss : List Span) (s : Span) (left : ℕ) (us : Text) → 1 ≤ length ss → s ≡ get_or ss 0 s
-    → left_of ms ss left us ≡ cells (map_at ms s.number) (take left us) ++ left_of ms (drop 1 ss) (first_units (drop 1 ss)) (drop left us)
-piece_to_end ms ss s left us h e =
-    ap (λ ss. left_of ms ss left us) (headed ss s h e) ∙ ap (λ cs. cells (map_at ms s.number) (take left us) ++ cs) (sym (all_left ms (drop 1 ss) (drop left us)))
-
--- whole stretches
-pub spans_taken : (n k : ℕ) (ss : List Span) → AreSpans n ss → AreSpans n (take k ss)
-spans_taken n zero ss a = tt
-spans_taken n (suc k) [] a = tt
-spans_taken n (suc k) (s ∷ ss) a = (a.0, a.1, spans_taken n k ss a.2)
-
-pub spans_dropped : (n k : ℕ) (ss : List Span) → AreSpans n ss → AreSpans n (drop k ss)
-spans_dropped n zero ss a = a
-spans_dropped n (suc k) [] a = tt
-spans_dropped n (suc k) (s ∷ ss) a = spans_dropped n k ss a.2
-
-pub units_cut : (k : ℕ) (ss : List Span) → all_units (take k ss) + all_units (drop k ss) ≡ all_units ss
-units_cut k ss = sym (units-append (take k ss) (drop k ss)) ∙ ap all_units (take-append-drop k ss)
-
-pub whole_cells : (ms : List AttrMap) (ss : List Span) (k n : ℕ) (us : Text) → all_units ss ≡ length us → n ≡ all_units (take k ss)
-    → cells_of ms ss us ≡ cells_of ms (take k ss) (take n us) ++ cells_of ms (drop k ss) (drop n us)
-whole_cells ms ss k n us h e =
-    ap₂ (cells_of ms) (sym (take-append-drop k ss)) (sym (take-append-drop n us))
-    ∙ cells-append ms (take k ss) (drop k ss) (take n us) (drop n us) (omega (arith, length-take-le n us (omega (arith, e, h, units_cut k ss)), e))
+pub piece_to_end : (ss : List Span) (s : Span) (left : ℕ) (us : Text) → 1 ≤ length ss → s ≡ get_or ss 0 s
+    → left_of ss left us ≡ cells s.attrs (take left us) ++ left_of (drop 1 ss) (first_units (drop 1 ss)) (drop left us)
+piece_to_end ss s left us h e =
+    ap (λ ss. left_of ss left us) (headed ss s h e) ∙ ap (λ cs. cells s.attrs (take left us) ++ cs) (sym (all_left (drop 1 ss) (drop left us)))
 
 -- ---- cells by their count
 
@@ -259,62 +203,40 @@ joined_last [] t s = refl
 joined_last (u ∷ []) t s = refl
 joined_last (u ∷ (v ∷ ss)) t s = ap (λ us. u ∷ us) (joined_last (v ∷ ss) t s)
 
-same_test : (a b : ℕ) → a ≡ b → (a == b) ≡ true
-same_test a b h = grind (arith, nat_tests)
+pub joined_same : (ss : List Span) (t s : Span) → same_map t.attrs s.attrs ≡ true → joined_on (ss ++ t ∷ []) s ≡ ss ++ record { units = t.units + s.units; attrs = s.attrs } ∷ []
+joined_same ss t s e = joined_last ss t s ∙ ap (λ (b : Bool). ss ++ (if b then record { units = t.units + s.units; attrs = s.attrs } ∷ [] else (t ∷ (s ∷ [])))) e
 
-other_test : (a b : ℕ) → (a ≡ b → ⊥) → (a == b) ≡ false
-other_test a b h = grind (arith, nat_tests)
-
-pub joined_same : (ss : List Span) (t s : Span) → t.number ≡ s.number → joined_on (ss ++ t ∷ []) s ≡ ss ++ record { units = t.units + s.units; number = s.number } ∷ []
-joined_same ss t s e =
-    joined_last ss t s ∙ ap (λ (b : Bool). ss ++ (if b then record { units = t.units + s.units; number = s.number } ∷ [] else (t ∷ (s ∷ [])))) (same_test t.number s.number e)
-
-pub joined_apart : (ss : List Span) (t s : Span) → (t.number ≡ s.number → ⊥) → joined_on (ss ++ t ∷ []) s ≡ (ss ++ t ∷ []) ++ s ∷ []
+pub joined_apart : (ss : List Span) (t s : Span) → same_map t.attrs s.attrs ≡ false → joined_on (ss ++ t ∷ []) s ≡ (ss ++ t ∷ []) ++ s ∷ []
 joined_apart ss t s e =
-    joined_last ss t s ∙ ap (λ (b : Bool). ss ++ (if b then record { units = t.units + s.units; number = s.number } ∷ [] else (t ∷ (s ∷ [])))) (other_test t.number s.number e)
+    joined_last ss t s ∙ ap (λ (b : Bool). ss ++ (if b then record { units = t.units + s.units; attrs = s.attrs } ∷ [] else (t ∷ (s ∷ [])))) e
     ∙ sym (append_assoc ss (t ∷ []) (s ∷ []))
 
-pub more_cells : (ms : List AttrMap) (ss : List Span) (s : Span) (us vs : Text) → all_units ss ≡ length us → s.units ≡ length vs
-    → cells_of ms (joined_on ss s) (us ++ vs) ≡ cells_of ms ss us ++ cells (map_at ms s.number) vs
-more_cells ms ss s us vs h e =
-    joined_cells ms ss s (us ++ vs) ∙ cells-append ms ss (s ∷ []) us vs h
-    ∙ ap (λ cs. cells_of ms ss us ++ cs) (append-nil _ ∙ ap (λ (n : ℕ). cells (map_at ms s.number) (take n vs)) e ∙ ap (cells (map_at ms s.number)) (take-length vs))
+more_cells : (ss : List Span) (s : Span) (us vs : Text) → all_units ss ≡ length us → s.units ≡ length vs
+    → cells_of (joined_on ss s) (us ++ vs) ≡ cells_of ss us ++ cells s.attrs vs
+more_cells ss s us vs h e =
+    joined_cells ss s (us ++ vs) ∙ cells-append ss (s ∷ []) us vs h
+    ∙ ap (λ cs. cells_of ss us ++ cs) (append-nil _ ∙ ap (λ (n : ℕ). cells s.attrs (take n vs)) e ∙ ap (cells s.attrs) (take-length vs))
 
--- ---- whole stretches, moved at once
+-- one stretch more, joined or not
+pub added_units : (ss ts : List Span) (s : Span) → Adds ss s ts → all_units ts ≡ all_units ss + s.units
+added_units ss ts s (inl e) = ap all_units e ∙ joined_units ss s
+added_units ss ts s (inr e) = omega (arith, ap all_units e, units-append ss (s ∷ []))
 
-pub record AreWhole (n : ℕ) (ss : List Span) (left : ℕ) (us : Text) : Type 0 where
-  pub first : left ≡ first_units ss
-  pub spans : AreSpans n ss
-  pub units : all_units ss ≡ length us
+pub added_spans : (ss ts : List Span) (s : Span) → Adds ss s ts → AreSpans ss → 1 ≤ s.units → AreSpans ts
+added_spans ss ts s (inl e) h k = subst AreSpans (sym e) (joined_spans ss s h k)
+added_spans ss ts s (inr e) h k = subst AreSpans (sym e) (spans-append ss (s ∷ []) h (k, tt))
 
-pub are_whole : (n : ℕ) (ss : List Span) (left first : ℕ) (us : Text) → AreLeft n ss left → left_units ss left ≡ length us → left ≡ first → first ≡ first_units ss → AreWhole n ss left us
-are_whole n ss left first us a u e f =
-    let is : left ≡ first_units ss = e ∙ f in
-    record { first = is; spans = are_left_all n ss (subst (AreLeft n ss) is a); units = sym (all_left_units ss) ∙ ap (left_units ss) (sym is) ∙ u }
+pub added_cells : (ss ts : List Span) (s : Span) (us vs : Text) → Adds ss s ts → all_units ss ≡ length us → s.units ≡ length vs → cells_of ts (us ++ vs) ≡ cells_of ss us ++ cells s.attrs vs
+added_cells ss ts s us vs (inl e) h k = ap (λ (ss : List Span). cells_of ss (us ++ vs)) e ∙ more_cells ss s us vs h k
+added_cells ss ts s us vs (inr e) h k =
+    ap (λ (ss : List Span). cells_of ss (us ++ vs)) e ∙ cells-append ss (s ∷ []) us vs h
+    ∙ ap (λ cs. cells_of ss us ++ cs) (append-nil _ ∙ ap (λ (n : ℕ). cells s.attrs (take n vs)) k ∙ ap (cells s.attrs) (take-length vs))
 
-pub whole_fits : (n : ℕ) (ss : List Span) (left k m : ℕ) (us : Text) → AreWhole n ss left us → m ≡ all_units (take k ss) → m ≤ length us
-whole_fits n ss left k m us w e = omega (arith, e, units_cut k ss, w.units)
-
-pub whole_length : (n : ℕ) (ss : List Span) (left k m : ℕ) (us : Text) → AreWhole n ss left us → m ≡ all_units (take k ss) → all_units (take k ss) ≡ length (take m us)
-whole_length n ss left k m us w e = omega (arith, e, length-take-le m us (whole_fits n ss left k m us w e))
-
-pub whole_left : (n : ℕ) (ss : List Span) (left k m : ℕ) (us : Text) → AreWhole n ss left us → m ≡ all_units (take k ss) → left_units (drop k ss) (first_units (drop k ss)) ≡ length (drop m us)
-whole_left n ss left k m us w e = all_left_units (drop k ss) ∙ (let d : all_units (drop k ss) ≡ length (drop m us) = omega (arith, e, units_cut k ss, w.units, length-drop m us) in d)
-
-whole_is : (ms : List AttrMap) (n : ℕ) (ss : List Span) (left k m : ℕ) (us : Text) → AreWhole n ss left us → m ≡ all_units (take k ss)
-    → left_of ms ss left us ≡ cells_of ms (take k ss) (take m us) ++ cells_of ms (drop k ss) (drop m us)
-whole_is ms n ss left k m us w e = ap (λ (l : ℕ). left_of ms ss l us) w.first ∙ all_left ms ss us ∙ whole_cells ms ss k m us w.units e
-
-pub whole_taken : (ms : List AttrMap) (n : ℕ) (ss : List Span) (left k m : ℕ) (us : Text) → AreWhole n ss left us → m ≡ all_units (take k ss) → take m (left_of ms ss left us) ≡ cells_of ms (take k ss) (take m us)
-whole_taken ms n ss left k m us w e =
-    let l = whole_length n ss left k m us w e in
-    taken_front m _ _ _ (whole_is ms n ss left k m us w e) (length_spans ms (take k ss) (take m us) l ∙ sym l ∙ sym e)
-
-pub whole_rest : (ms : List AttrMap) (n : ℕ) (ss : List Span) (left k m : ℕ) (us : Text) → AreWhole n ss left us → m ≡ all_units (take k ss)
-    → left_of ms (drop k ss) (first_units (drop k ss)) (drop m us) ≡ drop m (left_of ms ss left us)
-whole_rest ms n ss left k m us w e =
-    let l = whole_length n ss left k m us w e in
-    all_left ms (drop k ss) (drop m us) ∙ dropped_front m _ _ _ (whole_is ms n ss left k m us w e) (length_spans ms (take k ss) (take m us) l ∙ sym l ∙ sym e)
+-- a text that is added piece by piece
+pub piece_added : (m : AttrMap) (us : Text) (at n : ℕ) (start old new : List Cell) → old ≡ start ++ cells m (take at us) → new ≡ old ++ cells m (take n (drop at us)) → new ≡ start ++ cells m (take (at + n) us)
+piece_added m us at n start old new o e =
+    e ∙ ap (λ cs. cs ++ cells m (take n (drop at us))) o ∙ append_assoc start (cells m (take at us)) (cells m (take n (drop at us)))
+    ∙ ap (λ cs. start ++ cs) (sym (cells-cut m (take at us) (take n (drop at us))) ∙ ap (cells m) (sym (take-add at n us)))
 
 -- ---- loops over pieces
 

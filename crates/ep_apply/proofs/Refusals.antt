@@ -1,5 +1,5 @@
 -- A change is refused exactly where it doesn't fit.
-use Rattle.std.proofs.Common.{◌≡◌, ℕ, suc, ◌+◌, ◌-◌, ◌≤◌, Bool, true, false, cond, not, ◌&&◌, ◌||◌, ◌==◌, ◌⊎◌, inl, inr, List, [], ◌∷◌, length, take, drop, get_or, Option, Some, None, if◌then◌else◌, refl, sym, ap, ap₂, ◌∙◌, subst, arith, length-drop, length-take-le}
+use Rattle.std.proofs.Common.{◌≡◌, ℕ, suc, ◌+◌, ◌-◌, ◌≤◌, Bool, true, false, cond, not, ◌&&◌, ◌||◌, ◌==◌, ◌⊎◌, inl, inr, List, [], ◌∷◌, length, take, drop, get_or, Option, Some, None, Result, IsOk, ◌↔◌, if◌then◌else◌, refl, sym, ap, ap₂, ◌∙◌, subst, arith, length-drop, length-take-le}
 use Rattle.std.proofs.lemmas.Bool.Decides.{nat_tests}
 use Rattle.std.proofs.lemmas.List.{length-map}
 use Rattle.ep_units.specs.Text.{Text, is_high, is_newline}
@@ -14,11 +14,11 @@ use Rattle.ep_cs.specs.declared.op.Kind.{Kind}
 use Rattle.ep_cs.specs.declared.op.Kind.TheVariants as kind
 use Rattle.ep_cs.specs.declared.op.Op.{Op}
 use Rattle.ep_cs.specs.declared.bad.FitBad.{FitBad}
-use Rattle.ep_cs.specs.declared.bad.FitBad.TheVariants.{OldLen, Newlines}
+use Rattle.ep_cs.specs.declared.bad.FitBad.TheVariants.{OldLen}
 use Rattle.ep_cs.proofs.Stretches.{lined_stretch}
 use Rattle.ep_cs.proofs.Truth.{true_change}
 use Rattle.ep_cs.proofs.TrueRuns.{stamped_true}
-use Rattle.ep_apply.specs.Fitting.{holds, is_true, first_untrue, first_cut, first_end, cuts, untrue_or, fit_bad, ends_high}
+use Rattle.ep_apply.specs.Fitting.{answer, holds, is_true, first_untrue, first_cut, first_end, cuts, untrue_or, fit_bad, ends_high, runs_bad}
 use Rattle.ep_apply.proofs.Ends.{ends_are}
 
 pub last_newline : (us : Text) → 1 ≤ length us → is_whole_lines us ≡ is_newline (get_or us (length us - 1) 0)
@@ -185,19 +185,29 @@ at_length c doc l =
     let same : (length doc == length c.edit.places) ≡ true = ap (λ (k : ℕ). k == length c.edit.places) l ∙ number_itself (length c.edit.places) in
     ap (λ b. if b then untrue_or (first_untrue 0 c.runs (text_of doc)) (cuts (first_cut 0 c.edit.places (text_of doc))) else Some (OldLen (length doc) (length c.edit.places))) same
 
--- what was found among the operations and the text is why the change doesn't fit
-pub said_untrue : (c : Change) (doc : Doc) (ops : List Op) (text : Text) (i : ℕ) → length doc ≡ length c.edit.places → ops ≡ c.runs → text ≡ text_of doc → first_untrue 0 ops text ≡ Some i → fit_bad c doc ≡ Some (Newlines i)
-said_untrue c doc ops text i l o t e = at_length c doc l ∙ ap (λ (u : Option ℕ). untrue_or u (cuts (first_cut 0 c.edit.places (text_of doc)))) ((λ j. first_untrue 0 (sym o j) (sym t j)) ∙ e)
-
-pub said_cut : (c : Change) (doc : Doc) (ops ops' : List Op) (text : Text) (p : Option ℕ) → IsNormal c → length doc ≡ length c.edit.places → ops ≡ c.runs → ops' ≡ c.runs → text ≡ text_of doc → first_untrue 0 ops text ≡ None → first_end 0 ops' text ≡ p
-    → fit_bad c doc ≡ cuts p
-said_cut c doc ops ops' text p normal l o o' t e f =
-    let none : first_untrue 0 c.runs (text_of doc) ≡ None = (λ j. first_untrue 0 (sym o j) (sym t j)) ∙ e in
-    at_length c doc l ∙ ap (λ (u : Option ℕ). untrue_or u (cuts (first_cut 0 c.edit.places (text_of doc)))) none
-    ∙ ap cuts (cut_is c doc normal l none ∙ (λ j. first_end 0 (sym o' j) (sym t j)) ∙ f)
+-- what runs say of the text is why the change doesn't fit
+pub runs_are : (c : Change) (doc : Doc) (ops : List Op) (us : Text) → IsNormal c → length doc ≡ length c.edit.places → ops ≡ c.runs → us ≡ text_of doc → runs_bad ops us ≡ fit_bad c doc
+runs_are c doc ops us n l o t = (λ j. runs_bad (o j) (t j)) ∙ go (first_untrue 0 c.runs (text_of doc)) refl ∙ sym (at_length c doc l)
+  where
+    go : (f : Option ℕ) → first_untrue 0 c.runs (text_of doc) ≡ f
+        → untrue_or (first_untrue 0 c.runs (text_of doc)) (cuts (first_end 0 c.runs (text_of doc))) ≡ untrue_or (first_untrue 0 c.runs (text_of doc)) (cuts (first_cut 0 c.edit.places (text_of doc)))
+    go None e = ap (λ (p : Option ℕ). untrue_or (first_untrue 0 c.runs (text_of doc)) (cuts p)) (sym (cut_is c doc n l e))
+    go (Some i) e =
+        ap (λ (f : Option ℕ). untrue_or f (cuts (first_end 0 c.runs (text_of doc)))) e
+        ∙ sym (ap (λ (f : Option ℕ). untrue_or f (cuts (first_cut 0 c.edit.places (text_of doc)))) e)
 
 pub refused_not : (c : Change) (doc : Doc) (why : FitBad) → fit_bad c doc ≡ Some why → Fits c doc → ⊥
 refused_not c doc why e f = no (sym e ∙ not_refused c doc f)
   where
     no : Some why ≡ None → ⊥
     no e = cc
+
+pub answer_fits : (c : Change) (doc : Doc) (r : Result (Unit {0}) FitBad) → IsNormal c → r ≡ answer (fit_bad c doc) → IsOk r ↔ Fits c doc
+answer_fits c doc r n e = go (fit_bad c doc) refl e
+  where
+    go : (w : Option FitBad) → fit_bad c doc ≡ w → r ≡ answer w → IsOk r ↔ Fits c doc
+    go None f e = (λ _. fitting c doc n f, λ _. subst (λ (r : Result (Unit {0}) FitBad). IsOk r) (sym e) refl)
+    go (Some why) f e = (λ ok. absurd (no why (subst (λ (r : Result (Unit {0}) FitBad). IsOk r) e ok)), λ fit. absurd (refused_not c doc why f fit))
+      where
+        no : (why : FitBad) → IsOk (answer (Some why)) → ⊥
+        no why h = cc

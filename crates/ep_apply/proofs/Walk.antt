@@ -19,7 +19,7 @@ use Rattle.ep_cs.specs.Fits.{Fits}
 use Rattle.ep_cs.specs.NormalRuns.{IsRun, AreNormal, IsNormal}
 use Rattle.ep_cs.specs.Spelling.{new_len}
 use Rattle.ep_cs.proofs.Items.{length-numbered}
-use Rattle.ep_apply.specs.Made.{run_makes}
+use Rattle.ep_apply.specs.Makes.{run_makes}
 
 -- runs over n units, with their bank
 pub record AreRuns (n : ℕ) (ops : List Op) (bank : Text) : Type 0 where
@@ -146,7 +146,7 @@ over_length kept new kept' new' (p ∷ ps) last (x ∷ xs) (y ∷ ys) e =
     one Drop = refl
     one (Keep m) = refl
 
-length_after : (e : Edit) (doc : List Cell) → length doc ≡ length e.places → length (apply e doc) ≡ new_len e
+pub length_after : (e : Edit) (doc : List Cell) → length doc ≡ length e.places → length (apply e doc) ≡ new_len e
 length_after e doc h = over_length dressed (λ c. c) painted New e.places e.last doc (numbered 0 (length e.places)) (h ∙ sym (length-numbered 0 (length e.places)))
 
 bank_used : (os : List Op) (bank : Text) → AreNormal os bank → all_inserted os ≡ length bank

@@ -1,6 +1,6 @@
 pub mod Spans
-pub mod Made
-pub mod Numbers
+pub mod Blocks
+pub mod Makes
 pub mod Inside
 pub mod Fitting
 pub mod Documents

@@ -4,65 +4,64 @@ ghost use Rattle.std.specs.Prelude.{◌≡◌, ◌+◌, ◌≤◌, ◌<◌, ◌^
 ghost use Rattle.ep_cs.specs.Edit.{apply};
 ghost use Rattle.ep_cs.specs.Fits.{Fits};
 ghost use Rattle.ep_cs.specs.Runs.{passed};
-ghost use Rattle.ep_apply.specs.Made.{run_makes};
+ghost use Rattle.ep_apply.specs.Makes.{run_makes};
 
 use crate::doc::Doc;
-use crate::making::Making;
+use crate::moving::keep;
+use crate::reading::Reading;
+use crate::span::Place;
+use crate::writer::Writer;
 use ep_attr::AttrMap;
 use ep_cs::{Change, Kind, Op};
 use ep_units::NoMemory;
 use std::alloc::Global;
 
 /// What one operation makes.
-fn apply_op(op: &Op, text: &[u16], making: &mut Making<'_>) -> Result<(), NoMemory>
-    requires inside { passed op.now.kind op.now.units ≤ length making.old.rest }
-    requires short { length making.old.done + length (run_makes op.now.kind op.now.attrs text.now (take (passed op.now.kind op.now.units) making.old.rest)) < 2 ^ 32 }
-    ensures done { OnOk result (making.new.done ≡ making.old.done ++ run_makes op.now.kind op.now.attrs text.now (take (passed op.now.kind op.now.units) making.old.rest)) }
-    ensures rest { OnOk result (making.new.rest ≡ drop (passed op.now.kind op.now.units) making.old.rest) }
+fn apply_op(
+    alloc: Global,
+    op: &Op,
+    text: &[u16],
+    out: &mut Writer,
+    rest: &mut Reading<'_>,
+) -> Result<(), NoMemory>
+    requires inside { passed op.now.kind op.now.units ≤ length rest.old }
+    requires short { length out.old + length (run_makes op.now.kind op.now.attrs text.now (take (passed op.now.kind op.now.units) rest.old)) < 2 ^ 32 }
+    ensures done { OnOk result (out.new ≡ out.old ++ run_makes op.now.kind op.now.attrs text.now (take (passed op.now.kind op.now.units) rest.old)) }
+    ensures rest { OnOk result (rest.new ≡ drop (passed op.now.kind op.now.units) rest.old) }
 {
     match op.kind {
-        Kind::Keep => making.keep(op.units, &op.attrs),
+        Kind::Keep => keep(alloc, out, rest, op.units, &op.attrs),
         Kind::Drop => {
-            making.skip(op.units);
+            rest.skip(op.units);
             Ok(())
         }
-        Kind::Insert => making.insert(text, &op.attrs),
+        Kind::Insert => out.push(text, &op.attrs, Place::Joined),
     }
 }
 
-/// The document after a change that fits it, in time that grows with the maps that have numbers in it.
-fn edited(alloc: Global, doc: &Doc, change: &Change) -> Result<Doc, NoMemory>
+/// The document after a change that fits it. It shares the blocks in which nothing is altered.
+pub fn apply(alloc: Global, doc: &Doc, change: &Change) -> Result<Doc, NoMemory>
     requires { Fits change.now doc.now }
     ensures { IfOk result (λ after. after ≡ apply change.now.edit doc.now) }
 {
-    let mut making = doc.making(alloc, change)?;
+    let mut out = doc.writer(alloc)?;
+    let mut rest = doc.reading();
     let bank = change.bank().as_slice();
     let mut at = 0;
     let mut used = 0;
     for op in change.ops() {
         let next = used + op.inserted() as usize;
-        apply_op(op, &bank[used..next], &mut making)?;
+        apply_op(alloc, op, &bank[used..next], &mut out, &mut rest)?;
         at += op.passed();
         used = next;
     }
     let as_it_is = AttrMap::none(alloc);
-    making.keep(doc.len() - at, &as_it_is)?;
+    keep(alloc, &mut out, &mut rest, doc.len() - at, &as_it_is)?;
+    let blocks = out.finish()?;
     Ok(Doc {
-        parts: making.finish(),
+        blocks,
+        units: change.new_len(),
     })
-}
-
-/// The document after a change that fits it.
-pub fn apply(alloc: Global, doc: &Doc, change: &Change) -> Result<Doc, NoMemory>
-    requires { Fits change.now doc.now }
-    ensures { IfOk result (λ after. after ≡ apply change.now.edit doc.now) }
-{
-    if doc.is_crowded() {
-        let doc = doc.copy(alloc)?;
-        edited(alloc, &doc, change)
-    } else {
-        edited(alloc, doc, change)
-    }
 }
 
 #[cfg(test)]
@@ -71,11 +70,12 @@ mod tests {
     use crate::fitting::fits;
     use crate::laws::documents_stay;
     use ep_cs::FitBad;
+    use ep_units::Units;
     use std::test::Fail;
 
-    fn applied(alloc: Global, doc: &Doc, change: &Change) -> Result<Option<Doc>, NoMemory> {
+    fn applied(alloc: Global, doc: &Doc, change: &Change) -> Result<Option<Units>, NoMemory> {
         match fits(doc, change) {
-            Ok(()) => Ok(Some(apply(alloc, doc, change)?)),
+            Ok(()) => Ok(Some(apply(alloc, doc, change)?.text(alloc)?)),
             Err(_) => Ok(None),
         }
     }
@@ -87,7 +87,7 @@ mod tests {
         let other = Change::identity(alloc, 6);
         assert_eq!(rt; fits(&doc, &other), Err(FitBad::OldLen(1, 6)));
         let after = applied(alloc, &doc, &Change::identity(alloc, 1))?;
-        assert!(rt; after.is_some_and(|after| after.text().as_slice() == [10].as_slice()));
+        assert!(rt; after.is_some_and(|text| text.as_slice() == [10].as_slice()));
         Ok(())
     }
 
@@ -98,7 +98,7 @@ mod tests {
         let change = Doc::newline(alloc)?.as_insert(alloc)?;
         assert_eq!(rt; change.old_len(), 0);
         let again = applied(alloc, &Doc::empty(alloc), &change)?;
-        assert!(rt; again.is_some_and(|doc| doc.text().as_slice() == [10].as_slice()));
+        assert!(rt; again.is_some_and(|text| text.as_slice() == [10].as_slice()));
         Ok(())
     }
 }

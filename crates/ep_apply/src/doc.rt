@@ -1,29 +1,33 @@
 //! Documents.
 
-ghost use Rattle.std.specs.Prelude.{◌≡◌, ◌∷◌, [], length, IfOk};
+ghost use Rattle.std.specs.Prelude.{◌≡◌, ◌<◌, ◌^◌, ◌∷◌, [], length, IfOk};
 ghost use Rattle.ep_cs.specs.Doc.{text_of};
 ghost use Rattle.ep_cs.specs.Plain.{plain};
 ghost use Rattle.ep_apply.specs.Documents.{IsDocument, insertion};
 
-use crate::copied::copied;
-use crate::making::Making;
-use crate::maps::copy_maps;
-use crate::parts::Parts;
+use crate::block::Block;
+use crate::passing::Passing;
 use crate::reading::Reading;
-use crate::span::first_units;
+use crate::span::Place;
+use crate::within::Within;
+use crate::writer::Writer;
 use ep_attr::AttrMap;
 use ep_cs::{Builder, Change};
 use ep_units::{NoMemory, Units};
 use std::alloc::Global;
 use std::marker::Model;
+use std::sync::Arc;
 
-/// How many maps may have a number in vain.
-const SPARE: usize = 64;
+/// How many blocks more a change may make of a document before their list grows.
+const SPARE: usize = 4;
 
 /// Attributed text: no half of a pair stands alone, the halves of a pair have equal maps, and no map has an empty value.
+///
+/// It stands in blocks of at most 1,024 UTF-16 units, which documents share.
 #[derive(Drop)]
 pub struct Doc {
-    pub(crate) parts: Parts,
+    pub(crate) blocks: Vec<Arc<Block>>,
+    pub(crate) units: u32,
 }
 
 impl Model for Doc {
@@ -36,11 +40,11 @@ impl Model for Doc {
 
     ghost coded = { coded_list coded_cell };
 
-    ghost use Rattle.ep_apply.specs.Documents.{IsDocument};
+    ghost use Rattle.ep_apply.specs.Inside.{doc_of, IsDoc};
 
-    ghost view = { λ d. d.parts.cells };
+    ghost view = { doc_of };
 
-    ghost invariant = { λ d. IsDocument d.parts.cells };
+    ghost invariant = { IsDoc };
 }
 
 impl Doc {
@@ -49,7 +53,8 @@ impl Doc {
         ensures { result ≡ [] }
     {
         Doc {
-            parts: Parts::empty(alloc),
+            blocks: Vec::new(alloc),
+            units: 0,
         }
     }
 
@@ -57,31 +62,43 @@ impl Doc {
     pub fn newline(alloc: Global) -> Result<Doc, NoMemory>
         ensures { IfOk result (λ d. d ≡ plain (10 ∷ [])) }
     {
-        let mut parts = Parts::empty(alloc);
-        let number = parts.number(AttrMap::none(alloc))?;
-        parts.push(&[10], number)?;
-        Ok(Doc { parts })
+        let mut out = Writer::with_room(alloc, 1)?;
+        out.push(&[10], &AttrMap::none(alloc), Place::Joined)?;
+        Ok(Doc {
+            blocks: out.finish()?,
+            units: 1,
+        })
     }
 
     /// How many UTF-16 units it has.
     pub fn len(&self) -> u32
         ensures { result ≡ length self.now }
     {
-        self.parts.len()
+        self.units
     }
 
-    pub fn text(&self) -> &Units
-        ensures { result.now ≡ text_of self.now }
+    /// Its units in one list, which is made.
+    pub fn text(&self, alloc: Global) -> Result<Units, NoMemory>
+        ensures { IfOk result (λ text. text ≡ text_of self.now) }
     {
-        self.parts.text()
+        let mut text = Units::with_capacity(alloc, self.units as usize)?;
+        for block in &self.blocks {
+            text.push_all(block.text())?;
+        }
+        Ok(text)
     }
 
-    /// The same document again.
+    /// The same document again, which shares all its blocks.
     pub fn copy(&self, alloc: Global) -> Result<Doc, NoMemory>
         ensures { IfOk result (λ d. d ≡ self.now) }
     {
+        let mut blocks = Vec::with_capacity(alloc, self.blocks.len())?;
+        for block in &self.blocks {
+            blocks.push(Arc::try_clone(block)?)?;
+        }
         Ok(Doc {
-            parts: copied(alloc, &self.parts)?,
+            blocks,
+            units: self.units,
         })
     }
 
@@ -90,48 +107,39 @@ impl Doc {
         ensures { IfOk result (λ change. change ≡ insertion self.now) }
     {
         let mut builder = Builder::new(alloc, 0);
-        self.parts.insert_into(&mut builder)?;
+        let mut rest = self.reading();
+        'stretches: while let Some(stretch) = rest.take(u32::MAX) {
+            builder.insert(stretch.text, stretch.attrs)?;
+        }
         builder.finish()
-    }
-
-    /// Whether many more maps have numbers than there are stretches.
-    pub(crate) fn is_crowded(&self) -> bool {
-        self.parts.maps.len() / 2 > self.parts.spans.len().saturating_add(SPARE)
     }
 
     /// All of it, to be read from its first unit to its last.
     pub fn reading(&self) -> Reading<'_>
         ensures all { result ≡ self.now }
         ensures document { IsDocument self.now }
+        ensures short { length self.now < 2 ^ 32 }
     {
-        let spans = self.parts.spans.as_slice();
         Reading {
-            maps: self.parts.maps.as_slice(),
-            spans,
-            left: first_units(spans),
-            text: self.parts.text.as_slice(),
+            here: Within::nothing(),
+            blocks: self.blocks.as_slice(),
         }
     }
 
-    /// Nothing made of it yet, with room for what a change makes.
-    pub(crate) fn making(&self, alloc: Global, change: &Change) -> Result<Making<'_>, NoMemory>
-        ensures done { IfOk result (λ m. m.done ≡ []) }
-        ensures rest { IfOk result (λ m. m.rest ≡ self.now) }
-        ensures document { IsDocument self.now }
+    /// Its text, to be passed from its first unit to its last.
+    pub fn passing(&self) -> Passing<'_>
+        ensures { result ≡ text_of self.now }
     {
-        let spans = self.parts.spans.as_slice();
-        let room = change
-            .ops()
-            .len()
-            .saturating_mul(2)
-            .saturating_add(spans.len());
-        let maps = copy_maps(alloc, self.parts.maps.as_slice())?;
-        Ok(Making {
-            alloc,
-            spans,
-            left: first_units(spans),
-            text: self.parts.text.as_slice(),
-            made: Parts::with_room(alloc, maps, room, change.new_len())?,
-        })
+        Passing {
+            here: &[],
+            blocks: self.blocks.as_slice(),
+        }
+    }
+
+    /// Nothing written yet, with room for what a change makes of it.
+    pub(crate) fn writer(&self, alloc: Global) -> Result<Writer, NoMemory>
+        ensures { IfOk result (λ w. w ≡ []) }
+    {
+        Writer::with_room(alloc, self.blocks.len().saturating_add(SPARE))
     }
 }

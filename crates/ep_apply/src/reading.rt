@@ -1,11 +1,14 @@
 //! A document that is read from its first unit to its last.
 
 ghost use Rattle.std.specs.Prelude.{◌≡◌, ◌≤◌, ◌++◌, [], length, drop, MatchOption};
+ghost use Rattle.std.specs.Arc.{arc_value};
 ghost use Rattle.ep_cs.specs.Runs.{cells};
 
-use crate::span::{Span, first_units};
+use crate::block::Block;
+use crate::within::Within;
 use ep_attr::AttrMap;
 use std::marker::Model;
+use std::sync::Arc;
 
 /// A text with one map.
 #[derive(Clone, Copy)]
@@ -14,13 +17,11 @@ pub struct Stretch<'a> {
     pub attrs: &'a AttrMap,
 }
 
-/// What is left of a document: stretches, of whose first so many units are left, their text, and the maps.
+/// What is left of a document: of the block that is begun, and the blocks behind it.
 #[derive(Drop)]
 pub struct Reading<'a> {
-    pub(crate) maps: &'a [AttrMap],
-    pub(crate) spans: &'a [Span],
-    pub(crate) left: u32,
-    pub(crate) text: &'a [u16],
+    pub(crate) here: Within<'a>,
+    pub(crate) blocks: &'a [Arc<Block>],
 }
 
 impl<'a> Model for Reading<'a> {
@@ -33,11 +34,9 @@ impl<'a> Model for Reading<'a> {
 
     ghost coded = { coded_list coded_cell };
 
-    ghost use Rattle.ep_apply.specs.Inside.{read_of, IsRead};
+    ghost use Rattle.ep_apply.specs.Inside.{read_of};
 
     ghost view = { read_of };
-
-    ghost invariant = { IsRead };
 }
 
 impl<'a> Reading<'a> {
@@ -47,21 +46,52 @@ impl<'a> Reading<'a> {
         ensures { MatchOption result ((self.old ≡ []) × (self.new ≡ []))
             (λ s. (self.old ≡ cells s.attrs.now s.text.now ++ self.new) × (1 ≤ length s.text.now) × (length s.text.now ≤ most)) }
     {
-        match self.spans {
+        if let Some(stretch) = self.here.take(most) {
+            return Some(stretch);
+        }
+        match self.blocks {
             [] => None,
-            [span, later @ ..] => {
-                let attrs = &self.maps[span.number as usize];
-                let units = self.left.min(most);
-                let (text, behind) = self.text.split_at(units as usize);
-                self.text = behind;
-                if units < self.left {
-                    self.left -= units;
-                    return Some(Stretch { text, attrs });
-                }
-                self.spans = later;
-                self.left = first_units(later);
-                Some(Stretch { text, attrs })
+            [block, later @ ..] => {
+                self.blocks = later;
+                self.here = block.within();
+                self.here.take(most)
             }
+        }
+    }
+
+    /// Takes the next block, where none is begun and this one has at most so many units.
+    pub(crate) fn take_block(&mut self, most: u32) -> Option<&'a Arc<Block>>
+        ensures { MatchOption result (self.new ≡ self.old)
+            (λ b. (self.old ≡ arc_value b.now ++ self.new) × (1 ≤ length (arc_value b.now)) × (length (arc_value b.now) ≤ most)) }
+    {
+        if !self.here.is_over() {
+            return None;
+        }
+        match self.blocks {
+            [] => None,
+            [block, later @ ..] => {
+                if block.seen().units > most {
+                    return None;
+                }
+                self.blocks = later;
+                Some(block)
+            }
+        }
+    }
+
+    /// Takes what is next, of at most so many units, and answers how many these are.
+    fn skip_piece(&mut self, most: u32) -> u32
+        requires some { 1 ≤ most }
+        requires inside { most ≤ length self.old }
+        ensures units { (1 ≤ result) × (result ≤ most) }
+        ensures rest { self.new ≡ drop result self.old }
+    {
+        if let Some(block) = self.take_block(most) {
+            return block.seen().units;
+        }
+        match self.take(most) {
+            None => most,
+            Some(stretch) => stretch.text.len() as u32,
         }
     }
 
@@ -72,10 +102,7 @@ impl<'a> Reading<'a> {
     {
         let mut left = units;
         'pieces: while left > 0 {
-            let Some(stretch) = self.take(left) else {
-                return;
-            };
-            left -= stretch.text.len() as u32;
+            left -= self.skip_piece(left);
         }
     }
 }

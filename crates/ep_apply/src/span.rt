@@ -1,13 +1,15 @@
 //! Stretches of units with one map each.
 
-ghost use Rattle.std.specs.Prelude.{◌≡◌, ◌≤◌, ◌<◌, ◌^◌, ◌+◌, length, take, vec_len, vec_capacity};
-ghost use Rattle.ep_apply.specs.Spans.{all_units, first_units, joined_on};
+ghost use Rattle.std.specs.Prelude.{◌≡◌, ◌<◌, ◌^◌, ◌+◌, vec_len, vec_capacity};
+ghost use Rattle.ep_apply.specs.Spans.{Adds, all_units, first_units, joined_on};
 
-/// So many units, and the number of their map.
-#[derive(Clone, Copy)]
+use ep_attr::AttrMap;
+
+/// So many units with one map.
+#[derive(Drop)]
 pub struct Span {
     pub units: u32,
-    pub number: u32,
+    pub attrs: AttrMap,
 }
 
 /// How many units the first stretch has, if there is one.
@@ -20,8 +22,29 @@ pub fn first_units(spans: &[Span]) -> u32
     }
 }
 
+/// Where a stretch is added.
+#[derive(Clone, Copy)]
+pub enum Place {
+    /// Behind the last one, whose map isn't looked at.
+    Apart,
+    /// To the last one, where both have one map.
+    Joined,
+}
+
+/// Adds a stretch.
+pub fn add_span(spans: &mut Vec<Span>, span: Span, place: Place)
+    requires room { vec_len spans.old < vec_capacity spans.old }
+    requires short { all_units spans.old.items + span.units < 2 ^ 32 }
+    ensures { Adds spans.old.items span spans.new.items }
+{
+    match place {
+        Place::Apart => spans.push_reserved(span),
+        Place::Joined => push_span(spans, span),
+    }
+}
+
 /// Adds a stretch, to the last one where both have one map.
-pub fn push_span(spans: &mut Vec<Span>, span: Span)
+fn push_span(spans: &mut Vec<Span>, span: Span)
     requires room { vec_len spans.old < vec_capacity spans.old }
     requires short { all_units spans.old.items + span.units < 2 ^ 32 }
     ensures { spans.new.items ≡ joined_on spans.old.items span }
@@ -29,49 +52,15 @@ pub fn push_span(spans: &mut Vec<Span>, span: Span)
     match spans.pop() {
         None => spans.push_reserved(span),
         Some(last) => {
-            if last.number == span.number {
+            if last.attrs == span.attrs {
                 spans.push_reserved(Span {
                     units: last.units + span.units,
-                    number: span.number,
+                    attrs: span.attrs,
                 });
             } else {
                 spans.push_reserved(last);
                 spans.push_reserved(span);
             }
         }
-    }
-}
-
-/// The first stretches that have together at most so many units.
-#[derive(Clone, Copy)]
-pub struct Front {
-    pub count: usize,
-    pub units: u32,
-}
-
-/// As many of the first stretches, of these units in all, as have together at most so many units.
-pub fn front_within(spans: &[Span], all: usize, most: u32) -> Front
-    requires { all ≡ all_units spans.now }
-    ensures count { result.count ≤ length spans.now }
-    ensures units { result.units ≡ all_units (take result.count spans.now) }
-    ensures within { result.units ≤ most }
-{
-    if all <= most as usize {
-        return Front {
-            count: spans.len(),
-            units: all as u32,
-        };
-    }
-    let mut units = 0;
-    for count in 0..spans.len() {
-        let more = spans[count].units;
-        if more > most - units {
-            return Front { count, units };
-        }
-        units += more;
-    }
-    Front {
-        count: spans.len(),
-        units,
     }
 }

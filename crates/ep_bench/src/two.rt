@@ -31,7 +31,7 @@ struct Chained {
 fn fitting_edit(alloc: Global, doc: &Doc, pool: &Pool, draws: &mut Draws) -> Result<Change>
     ensures { IfOk result (λ change. Fits change doc.now) }
 {
-    let text = edit(alloc, doc.text().as_slice(), draws)?;
+    let text = edit(alloc, doc.text(alloc)?.as_slice(), draws)?;
     let change = read_one(alloc, &text, pool)?;
     match fits(doc, &change) {
         Ok(()) => Ok(change),

@@ -189,7 +189,7 @@ pub fn fitting_edits(
 {
     let mut changes = Vec::new(alloc);
     for _ in 0..DOC_EDITS {
-        let text = edit(alloc, doc.text().as_slice(), draws)?;
+        let text = edit(alloc, doc.text(alloc)?.as_slice(), draws)?;
         let change = read_one(alloc, &text, pool)?;
         if fits(doc, &change).is_err() {
             return Err(anyhow!("an edit doesn't fit"));

@@ -87,16 +87,15 @@ pub record IsFront (us : Text) (at end : ℕ) (f : Fate) (d0 d1 d2 : Draft) (m :
   pub inside : end ≤ length us
   pub nothing : d0 ≡ blank (length us)
   pub bare : m ≡ none
-  pub front : GoesOn d0 d1 (painted (length (take at us)) m) (take at us)
-  pub stretch : GoesOn d1 d2 (times (length (take (end - at) (drop at us))) f) (take (end - at) (drop at us))
+  pub front : GoesOn d0 d1 (painted at m) (take at us)
+  pub stretch : GoesOn d1 d2 (times (end - at) f) (take (end - at) (drop at us))
 
 -- the front is kept: there is room for the stretch
-pub stretch_room : (us : Text) (at end : ℕ) (d0 d1 : Draft) (m : AttrMap) → at ≤ end → end ≤ length us → d0 ≡ blank (length us) → GoesOn d0 d1 (painted (length (take at us)) m) (take at us)
-    → passed d1.steps + length (take (end - at) (drop at us)) ≤ d1.old
+pub stretch_room : (us : Text) (at end : ℕ) (d0 d1 : Draft) (m : AttrMap) → at ≤ end → end ≤ length us → d0 ≡ blank (length us) → GoesOn d0 d1 (painted at m) (take at us) → passed d1.steps + (end - at) ≤ d1.old
 stretch_room us at end d0 d1 m h k e g =
     let from : passed d0.steps ≡ 0 = ap (λ (d : Draft). passed d.steps) e in
     let old : d0.old ≡ length us = ap (λ (d : Draft). d.old) e in
-    omega (arith, ap passed g.steps, passed-append d0.steps (painted (length (take at us)) m), passed_times (length (take at us)) (Keep m), front_long at us (omega arith), middle_long at end us h k, g.old)
+    omega (arith, ap passed g.steps, passed-append d0.steps (painted at m), passed_times at (Keep m), from, old, g.old, h, k)
 
 pub old_is : (us : Text) (d0 d1 : Draft) (s : List Step) (t : Text) → d0 ≡ blank (length us) → GoesOn d0 d1 s t → d1.old ≡ length us
 old_is us d0 d1 s t e g = g.old ∙ ap (λ (d : Draft). d.old) e
@@ -106,9 +105,9 @@ pub front_written : (us : Text) (at end : ℕ) (f : Fate) (d0 d1 d2 : Draft) (m 
 front_written us at end f d0 d1 d2 m w =
     let a = take at us in
     let b = take (end - at) (drop at us) in
-    let all : GoesOn d0 d2 (painted (length a) m ++ times (length b) f) (a ++ b) = both_written d0 d1 d2 (painted (length a) m) (times (length b) f) a b (passed_times (length a) (Keep m)) w.front w.stretch in
-    subst (λ (x : Draft × List Step). GoesOn x.0 d2 x.1 (a ++ b))
-    (λ i. (w.nothing i, (painted (front_long at us (let h : at ≤ length us = omega (arith, w.order, w.inside) in h) i) (w.bare i) ++ times (middle_long at end us w.order w.inside i) f))) all
+    let long : passed (painted at m) ≡ length a = passed_times at (Keep m) ∙ sym (front_long at us (omega (arith, w.order, w.inside))) in
+    let all : GoesOn d0 d2 (painted at m ++ times (end - at) f) (a ++ b) = both_written d0 d1 d2 (painted at m) (times (end - at) f) a b long w.front w.stretch in
+    subst (λ (x : Draft × List Step). GoesOn x.0 d2 x.1 (a ++ b)) (λ i. (w.nothing i, (painted at (w.bare i) ++ times (end - at) f))) all
 
 passed_front : (at n : ℕ) (f : Fate) → passed (kept at ++ times n f) ≡ at + n
 passed_front at n f = passed-append (kept at) (times n f) ∙ (λ i. passed_times at (Keep none) i + passed_times n f i)

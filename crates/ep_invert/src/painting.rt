@@ -10,29 +10,24 @@ ghost use Rattle.ep_invert.specs.Refusal.{refusal, splice_bad};
 
 use crate::bad::SpliceBad;
 use crate::stretch::{Stretch, find};
-use crate::writing::keep_text;
+use crate::writing::keep_next;
 use ep_apply::Doc;
 use ep_attr::AttrMap;
 use ep_cs::{Builder, Change};
 use ep_units::NoMemory;
 use std::alloc::Global;
 
-/// Attributes on a stretch of a text.
-fn painted(
-    alloc: Global,
-    old: &[u16],
-    stretch: Stretch,
-    attrs: &AttrMap,
-) -> Result<Change, NoMemory>
+/// Attributes on a stretch of a document.
+fn painted(alloc: Global, doc: &Doc, stretch: Stretch, attrs: &AttrMap) -> Result<Change, NoMemory>
     requires order { stretch.at ≤ stretch.end }
-    requires inside { stretch.end ≤ length old.now }
-    requires small { length old.now < 2 ^ 32 }
-    ensures { IfOk result (λ c. c ≡ stamped (paint (length old.now) stretch.at (stretch.end - stretch.at) attrs.now) old.now) }
+    requires inside { stretch.end ≤ length doc.now }
+    ensures { IfOk result (λ c. c ≡ stamped (paint (length doc.now) stretch.at (stretch.end - stretch.at) attrs.now) (text_of doc.now)) }
 {
-    let mut out = Builder::new(alloc, old.len() as u32);
+    let mut out = Builder::new(alloc, doc.len());
+    let mut rest = doc.passing();
     let as_it_is = AttrMap::none(alloc);
-    keep_text(&mut out, &old[..stretch.at], &as_it_is)?;
-    keep_text(&mut out, &old[stretch.at..stretch.end], attrs)?;
+    keep_next(&mut out, &mut rest, stretch.at, &as_it_is)?;
+    keep_next(&mut out, &mut rest, stretch.end - stretch.at, attrs)?;
     out.finish()
 }
 
@@ -45,7 +40,7 @@ fn dresses(n: u32, attrs: &AttrMap) -> bool
 
 /// The change that sets attributes on `n` units from `at` on, of which an empty value removes one.
 ///
-/// The document's newlines are counted up to the stretch's end; what is behind takes no time.
+/// It passes the document's blocks up to the stretch's end; what is behind takes no time.
 pub fn paint(
     alloc: Global,
     doc: &Doc,
@@ -58,6 +53,5 @@ pub fn paint(
     ensures refused { refusal result ≡ splice_bad (paint (length doc.now) at n attrs.now) (at + n) doc.now }
 {
     let stretch = find(doc, at, n, dresses(n, attrs))?;
-    let old = doc.text().as_slice();
-    Ok(painted(alloc, old, stretch, attrs)?)
+    Ok(painted(alloc, doc, stretch, attrs)?)
 }

@@ -12,32 +12,32 @@ ghost use Rattle.ep_invert.specs.Refusal.{refusal, splice_bad};
 
 use crate::bad::SpliceBad;
 use crate::stretch::{Stretch, find};
-use crate::writing::{drop_text, insert_text, keep_text};
+use crate::writing::{drop_next, insert_text, keep_next};
 use ep_apply::Doc;
 use ep_attr::AttrMap;
 use ep_cs::{Builder, Change};
 use ep_units::{NoMemory, Units};
 use std::alloc::Global;
 
-/// A text in the place of a stretch of a text.
+/// A text in the place of a stretch of a document.
 fn spliced(
     alloc: Global,
-    old: &[u16],
+    doc: &Doc,
     stretch: Stretch,
     text: &[u16],
     attrs: &AttrMap,
 ) -> Result<Change, NoMemory>
     requires order { stretch.at ≤ stretch.end }
-    requires inside { stretch.end ≤ length old.now }
-    requires small { length old.now < 2 ^ 32 }
-    requires short { length old.now - (stretch.end - stretch.at) + length text.now < 2 ^ 32 }
+    requires inside { stretch.end ≤ length doc.now }
+    requires short { length doc.now - (stretch.end - stretch.at) + length text.now < 2 ^ 32 }
     requires text { is_well_formed text.now ≡ true }
-    ensures { IfOk result (λ c. c ≡ stamped (splice (length old.now) stretch.at (stretch.end - stretch.at) (cells (after none attrs.now) text.now)) old.now) }
+    ensures { IfOk result (λ c. c ≡ stamped (splice (length doc.now) stretch.at (stretch.end - stretch.at) (cells (after none attrs.now) text.now)) (text_of doc.now)) }
 {
-    let mut out = Builder::new(alloc, old.len() as u32);
+    let mut out = Builder::new(alloc, doc.len());
+    let mut rest = doc.passing();
     let as_it_is = AttrMap::none(alloc);
-    keep_text(&mut out, &old[..stretch.at], &as_it_is)?;
-    drop_text(&mut out, &old[stretch.at..stretch.end])?;
+    keep_next(&mut out, &mut rest, stretch.at, &as_it_is)?;
+    drop_next(&mut out, &mut rest, stretch.end - stretch.at)?;
     insert_text(&mut out, text, attrs)?;
     out.finish()
 }
@@ -51,7 +51,7 @@ fn replaces(n: u32, text: &Units) -> bool
 
 /// The change that puts a text, with a map, in the place of `n` units from `at` on.
 ///
-/// The document's newlines are counted up to the stretch's end; what is behind takes no time.
+/// It passes the document's blocks up to the stretch's end; what is behind takes no time.
 pub fn splice(
     alloc: Global,
     doc: &Doc,
@@ -67,6 +67,5 @@ pub fn splice(
     ensures refused { refusal result ≡ splice_bad (splice (length doc.now) at n (cells (after none attrs.now) text.now)) (at + n) doc.now }
 {
     let stretch = find(doc, at, n, replaces(n, text))?;
-    let old = doc.text().as_slice();
-    Ok(spliced(alloc, old, stretch, text.as_slice(), attrs)?)
+    Ok(spliced(alloc, doc, stretch, text.as_slice(), attrs)?)
 }

@@ -1,52 +1,42 @@
 //! Stretches of a text.
 
 ghost use Rattle.std.specs.Prelude.{◌≡◌, ◌+◌, ◌≤◌, ◌<◌, ◌^◌, cond, length};
-ghost use Rattle.ep_apply.specs.Fitting.{ends_high};
+ghost use Rattle.ep_cs.specs.Doc.{text_of};
 ghost use Rattle.ep_invert.specs.Stretch.{end_cut, Finds};
 
 use crate::bad::SpliceBad;
 use ep_apply::Doc;
-use ep_units::is_high;
 
 /// The units from one place of a text to another.
 #[derive(Clone, Copy)]
 pub struct Stretch {
-    pub at: usize,
-    pub end: usize,
-}
-
-/// Whether the last unit is the first half of a pair.
-fn ends_high(text: &[u16]) -> bool
-    ensures { result ≡ ends_high text.now }
-{
-    match text {
-        [] => false,
-        [_, ..] => is_high(text[text.len() - 1]),
-    }
+    pub at: u32,
+    pub end: u32,
 }
 
 /// The first pair that is cut before a stretch, at its end, or at the end of the text.
-fn end_cut(text: &[u16], stretch: Stretch) -> Option<usize>
+fn end_cut(doc: &Doc, stretch: Stretch) -> Option<u32>
     requires order { stretch.at ≤ stretch.end }
-    requires inside { stretch.end ≤ length text.now }
-    ensures { result ≡ end_cut stretch.at stretch.end text.now }
+    requires inside { stretch.end ≤ length doc.now }
+    ensures { result ≡ end_cut stretch.at stretch.end (text_of doc.now) }
 {
-    if ends_high(&text[..stretch.at]) {
+    let mut rest = doc.passing();
+    if rest.pass(stretch.at).high {
         return Some(stretch.at);
     }
-    if ends_high(&text[stretch.at..stretch.end]) {
+    if rest.pass(stretch.end - stretch.at).high {
         return Some(stretch.end);
     }
-    if ends_high(&text[stretch.end..]) {
-        Some(text.len())
+    if rest.ends_high() {
+        Some(doc.len())
     } else {
         None
     }
 }
 
 /// What is altered: where nothing is, the stretch is of no units, at the start.
-fn altered(at: usize, n: usize, alters: bool) -> Stretch
-    requires { at + n < 2 ^ 64 }
+fn altered(at: u32, n: u32, alters: bool) -> Stretch
+    requires { at + n < 2 ^ 32 }
     ensures at { result.at ≡ cond alters at 0 }
     ensures end { result.end ≡ cond alters (at + n) 0 }
 {
@@ -61,14 +51,12 @@ fn altered(at: usize, n: usize, alters: bool) -> Stretch
 pub fn find(doc: &Doc, at: u32, n: u32, alters: bool) -> Result<Stretch, SpliceBad>
     ensures { Finds at n alters doc.now result }
 {
-    let at = at as usize;
-    let n = n as usize;
-    if at + n > doc.len() as usize {
+    if at as usize + n as usize > doc.len() as usize {
         return Err(SpliceBad::Place);
     }
     let stretch = altered(at, n, alters);
-    match end_cut(doc.text().as_slice(), stretch) {
+    match end_cut(doc, stretch) {
         None => Ok(stretch),
-        Some(low) => Err(SpliceBad::CutsPair(low as u64)),
+        Some(low) => Err(SpliceBad::CutsPair(u64::from(low))),
     }
 }

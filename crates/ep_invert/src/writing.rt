@@ -1,28 +1,30 @@
 //! A change that is written over a text that is known.
 
-ghost use Rattle.std.specs.Prelude.{◌≡◌, ◌+◌, ◌≤◌, ◌<◌, ◌^◌, [], length, OnOk};
+ghost use Rattle.std.specs.Prelude.{◌≡◌, ◌+◌, ◌≤◌, ◌<◌, ◌^◌, [], length, take, drop, OnOk};
+ghost use Rattle.ep_units.specs.Text.{Text};
 ghost use Rattle.ep_attr.specs.AttrMap.{none, after};
 ghost use Rattle.ep_cs.specs.Edit.{inserts};
 ghost use Rattle.ep_cs.specs.Runs.{cells};
 ghost use Rattle.ep_cs.specs.Steps.{passed};
 ghost use Rattle.ep_cs.specs.Splice.{dropped};
 ghost use Rattle.ep_cs.specs.Draft.{inserted_by};
-ghost use Rattle.ep_cs.specs.Lines.{IsStretch};
+ghost use Rattle.ep_apply.specs.Blocks.{Sees};
 ghost use Rattle.ep_invert.specs.Paint.{painted};
 ghost use Rattle.ep_invert.specs.Writing.{GoesOn};
 
+use ep_apply::{Passing, Seen};
 use ep_attr::AttrMap;
-use ep_cs::{Builder, count_lines, last_line};
+use ep_cs::Builder;
 use ep_units::NoMemory;
 
-/// Keeps a text that is one run.
-fn keep_run(out: &mut Builder, text: &[u16], attrs: &AttrMap) -> Result<(), NoMemory>
-    requires run { IsStretch text.now }
-    requires inside { passed out.old.steps + length text.now ≤ out.old.old }
-    requires short { out.old.old < 2 ^ 32 }
-    ensures { OnOk result (GoesOn out.old out.new (painted (length text.now) attrs.now) text.now) }
+/// Keeps a text of which this is seen: its whole lines and the rest.
+fn keep_seen(out: &mut Builder, seen: Seen, attrs: &AttrMap) -> Result<(), NoMemory>
+    requires inside { passed out.old.steps + seen.units ≤ out.old.old }
+    requires lined { seen.lines + seen.tail ≤ seen.units }
+    ensures { OnOk result ((us : Text) → Sees seen us → GoesOn out.old out.new (painted seen.units attrs.now) us) }
 {
-    out.keep(text.len() as u32, count_lines(text) as u32, attrs)
+    out.keep(seen.units - seen.tail, seen.lines, attrs)?;
+    out.keep(seen.tail, 0, attrs)
 }
 
 /// Keeps a text with a map.
@@ -31,30 +33,35 @@ pub fn keep_text(out: &mut Builder, text: &[u16], attrs: &AttrMap) -> Result<(),
     requires short { out.old.old < 2 ^ 32 }
     ensures { OnOk result (GoesOn out.old out.new (painted (length text.now) attrs.now) text.now) }
 {
-    let (lines, rest) = text.split_at(last_line(text));
-    keep_run(out, lines, attrs)?;
-    keep_run(out, rest, attrs)
+    keep_seen(out, Seen::of(text), attrs)
 }
 
-/// Drops a text that is one run.
-fn drop_run(out: &mut Builder, text: &[u16]) -> Result<(), NoMemory>
-    requires run { IsStretch text.now }
-    requires inside { passed out.old.steps + length text.now ≤ out.old.old }
-    requires short { out.old.old < 2 ^ 32 }
-    ensures { OnOk result (GoesOn out.old out.new (dropped (length text.now)) text.now) }
+/// Keeps the next units of a text with a map.
+pub fn keep_next(
+    out: &mut Builder,
+    rest: &mut Passing<'_>,
+    units: u32,
+    attrs: &AttrMap,
+) -> Result<(), NoMemory>
+    requires left { units ≤ length rest.old }
+    requires inside { passed out.old.steps + units ≤ out.old.old }
+    ensures written { OnOk result (GoesOn out.old out.new (painted units attrs.now) (take units rest.old)) }
+    ensures rest { OnOk result (rest.new ≡ drop units rest.old) }
 {
-    out.drop_units(text.len() as u32, count_lines(text) as u32)
+    let seen = rest.pass(units);
+    keep_seen(out, seen, attrs)
 }
 
-/// Drops a text.
-pub fn drop_text(out: &mut Builder, text: &[u16]) -> Result<(), NoMemory>
-    requires inside { passed out.old.steps + length text.now ≤ out.old.old }
-    requires short { out.old.old < 2 ^ 32 }
-    ensures { OnOk result (GoesOn out.old out.new (dropped (length text.now)) text.now) }
+/// Drops the next units of a text.
+pub fn drop_next(out: &mut Builder, rest: &mut Passing<'_>, units: u32) -> Result<(), NoMemory>
+    requires left { units ≤ length rest.old }
+    requires inside { passed out.old.steps + units ≤ out.old.old }
+    ensures written { OnOk result (GoesOn out.old out.new (dropped units) (take units rest.old)) }
+    ensures rest { OnOk result (rest.new ≡ drop units rest.old) }
 {
-    let (lines, rest) = text.split_at(last_line(text));
-    drop_run(out, lines)?;
-    drop_run(out, rest)
+    let seen = rest.pass(units);
+    out.drop_units(seen.units - seen.tail, seen.lines)?;
+    out.drop_units(seen.tail, 0)
 }
 
 /// Inserts a text with a map.

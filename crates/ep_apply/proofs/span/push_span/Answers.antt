@@ -8,13 +8,13 @@ pub overflow_add-last : goal.overflow_add-last
 overflow_add-last c =
     omega (arith, ap all_units c.in-Some.ensures.items, units-append c.pop.new.self.items (c.in-Some.last ∷ []), c.requires.short)
 
-pub returns-then-last-span : goal.returns-then-last-span
-returns-then-last-span c =
-    c.push_reserved-then-last-span.ensures.items ∙ sym (joined_same c.pop.new.self.items c.in-Some.last c.args.span c.if-last-span.true)
+pub returns-then-eq : goal.returns-then-eq
+returns-then-eq c =
+    c.push_reserved-then-eq.ensures.items ∙ sym (joined_same c.pop.new.self.items c.in-Some.last c.args.span (sym c.eq.ensures ∙ c.if-eq.true))
     ∙ ap (λ (ss : List Span). joined_on ss c.args.span) (sym c.in-Some.ensures.items)
 
-pub returns-else-last-span : goal.returns-else-last-span
-returns-else-last-span c =
-    c.push_reserved-else-last-span-2.ensures.items ∙ ap (λ (ss : List Span). ss ++ c.args.span ∷ []) c.push_reserved-else-last-span.ensures.items
-    ∙ sym (joined_apart c.pop.new.self.items c.in-Some.last c.args.span c.if-last-span.false)
+pub returns-else-eq : goal.returns-else-eq
+returns-else-eq c =
+    c.push_reserved-else-eq-2.ensures.items ∙ ap (λ (ss : List Span). ss ++ c.args.span ∷ []) c.push_reserved-else-eq.ensures.items
+    ∙ sym (joined_apart c.pop.new.self.items c.in-Some.last c.args.span (sym c.eq.ensures ∙ c.if-eq.false))
     ∙ ap (λ (ss : List Span). joined_on ss c.args.span) (sym c.in-Some.ensures.items)

@@ -1,6 +1,4 @@
-use Rattle.std.proofs.Common.{◌≡◌, ◌-◌, ◌∙◌, length, ap, arith}
-use Rattle.ep_cs.specs.Change.{stamped}
-use Rattle.ep_cs.proofs.Plain.{length-text_of}
+use Rattle.std.proofs.Common.{◌∙◌, length}
 use Rattle.ep_invert.specs.declared.bad.SpliceBad.TheVariants as bad
 use Rattle.ep_invert.specs.Paint.{paint}
 use Rattle.ep_invert.proofs.Answered.{paint_asked, same_refusal, refused_so, found_right, found_made, found_fits, ends_in_order, ends_inside, length-paint}
@@ -20,19 +18,12 @@ pub painted-requires-clause-order : goal.painted-requires-clause-order
 painted-requires-clause-order c = ends_in_order c.args.at c.args.n c.dresses.result c.args.doc.now c.in_ok-stretch.stretch c.in_ok-stretch.ensures
 
 pub painted-requires-clause-inside : goal.painted-requires-clause-inside
-painted-requires-clause-inside c =
-    let old : length c.as_slice-old.result.now ≡ length c.args.doc.now = ap length (c.as_slice-old.ensures ∙ c.text.ensures) ∙ length-text_of c.args.doc.now in
-    omega (arith, old, ends_inside c.args.at c.args.n c.dresses.result c.args.doc.now c.in_ok-stretch.stretch c.in_ok-stretch.ensures)
-
-pub painted-requires-clause-small : goal.painted-requires-clause-small
-painted-requires-clause-small c =
-    let old : length c.as_slice-old.result.now ≡ length c.args.doc.now = ap length (c.as_slice-old.ensures ∙ c.text.ensures) ∙ length-text_of c.args.doc.now in
-    omega (arith, old, c.in_ok-stretch.ensures.small)
+painted-requires-clause-inside c = ends_inside c.args.at c.args.n c.dresses.result c.args.doc.now c.in_ok-stretch.stretch c.in_ok-stretch.ensures
 
 pub returns-clause-change : goal.returns-clause-change
 returns-clause-change c =
     found_made (paint (length c.args.doc.now) c.args.at c.args.n c.args.attrs.now) (λ a k. paint (length c.args.doc.now) a k c.args.attrs.now) c.args.at c.args.n c.dresses.result c.args.doc.now c.in_ok-stretch.stretch c.in_ok-painted.field-0 c.in_ok-stretch.ensures (paint_asked c.args.doc.now c.args.at c.args.n c.args.attrs.now c.dresses.result c.dresses.ensures c.in_ok-stretch.ensures.inside)
-    (c.in_ok-painted.ensures ∙ (λ i. stamped (paint ((ap length (c.as_slice-old.ensures ∙ c.text.ensures) ∙ length-text_of c.args.doc.now) i) c.in_ok-stretch.stretch.at (c.in_ok-stretch.stretch.end - c.in_ok-stretch.stretch.at) c.args.attrs.now) ((c.as_slice-old.ensures ∙ c.text.ensures) i)))
+    c.in_ok-painted.ensures
 
 pub returns-clause-fits : goal.returns-clause-fits
 returns-clause-fits c =

@@ -1,9 +1,9 @@
 use Rattle.std.proofs.Common.{◌≡◌, ◌-◌, ◌∙◌, length, ap, arith}
 use Rattle.ep_attr.specs.AttrMap.{none, after}
+use Rattle.ep_cs.specs.Doc.{text_of}
 use Rattle.ep_cs.specs.Runs.{cells}
 use Rattle.ep_cs.specs.Change.{stamped}
 use Rattle.ep_cs.specs.Splice.{splice}
-use Rattle.ep_cs.proofs.Plain.{length-text_of}
 use Rattle.ep_cs.proofs.Splices.{length-splice}
 use Rattle.ep_invert.specs.declared.bad.SpliceBad.TheVariants as bad
 use Rattle.ep_invert.proofs.Answered.{splice_asked, same_refusal, refused_so, found_right, found_made, found_fits, ends_in_order, ends_inside, as_long, nothing_gone}
@@ -23,25 +23,17 @@ pub spliced-requires-clause-order : goal.spliced-requires-clause-order
 spliced-requires-clause-order c = ends_in_order c.args.at c.args.n c.replaces.result c.args.doc.now c.in_ok-stretch.stretch c.in_ok-stretch.ensures
 
 pub spliced-requires-clause-inside : goal.spliced-requires-clause-inside
-spliced-requires-clause-inside c =
-    let old : length c.as_slice-old.result.now ≡ length c.args.doc.now = ap length (c.as_slice-old.ensures ∙ c.text.ensures) ∙ length-text_of c.args.doc.now in
-    omega (arith, old, ends_inside c.args.at c.args.n c.replaces.result c.args.doc.now c.in_ok-stretch.stretch c.in_ok-stretch.ensures)
-
-pub spliced-requires-clause-small : goal.spliced-requires-clause-small
-spliced-requires-clause-small c =
-    let old : length c.as_slice-old.result.now ≡ length c.args.doc.now = ap length (c.as_slice-old.ensures ∙ c.text.ensures) ∙ length-text_of c.args.doc.now in
-    omega (arith, old, c.in_ok-stretch.ensures.small)
+spliced-requires-clause-inside c = ends_inside c.args.at c.args.n c.replaces.result c.args.doc.now c.in_ok-stretch.stretch c.in_ok-stretch.ensures
 
 pub spliced-requires-clause-short : goal.spliced-requires-clause-short
 spliced-requires-clause-short c =
-    let old : length c.as_slice-old.result.now ≡ length c.args.doc.now = ap length (c.as_slice-old.ensures ∙ c.text.ensures) ∙ length-text_of c.args.doc.now in
     let text : length c.as_slice.result.now ≡ length c.args.text.now = ap length c.as_slice.ensures in
-    omega (arith, old, text, as_long c.args.at c.args.n c.replaces.result c.args.doc.now c.in_ok-stretch.stretch (length c.args.text.now) c.in_ok-stretch.ensures (nothing_gone c.args.n (length c.args.text.now) c.replaces.result c.replaces.ensures) (c.requires.short c.in_ok-stretch.ensures.inside))
+    omega (arith, text, as_long c.args.at c.args.n c.replaces.result c.args.doc.now c.in_ok-stretch.stretch (length c.args.text.now) c.in_ok-stretch.ensures (nothing_gone c.args.n (length c.args.text.now) c.replaces.result c.replaces.ensures) (c.requires.short c.in_ok-stretch.ensures.inside))
 
 pub returns-clause-change : goal.returns-clause-change
 returns-clause-change c =
     found_made (splice (length c.args.doc.now) c.args.at c.args.n (cells (after none c.args.attrs.now) c.args.text.now)) (λ a k. splice (length c.args.doc.now) a k (cells (after none c.args.attrs.now) c.args.text.now)) c.args.at c.args.n c.replaces.result c.args.doc.now c.in_ok-stretch.stretch c.in_ok-spliced.field-0 c.in_ok-stretch.ensures (splice_asked c.args.doc.now c.args.at c.args.n (after none c.args.attrs.now) c.args.text.now c.replaces.result c.replaces.ensures c.in_ok-stretch.ensures.inside)
-    (c.in_ok-spliced.ensures ∙ (λ i. stamped (splice ((ap length (c.as_slice-old.ensures ∙ c.text.ensures) ∙ length-text_of c.args.doc.now) i) c.in_ok-stretch.stretch.at (c.in_ok-stretch.stretch.end - c.in_ok-stretch.stretch.at) (cells (after none c.args.attrs.now) (c.as_slice.ensures i))) ((c.as_slice-old.ensures ∙ c.text.ensures) i)))
+    (c.in_ok-spliced.ensures ∙ (λ i. stamped (splice (length c.args.doc.now) c.in_ok-stretch.stretch.at (c.in_ok-stretch.stretch.end - c.in_ok-stretch.stretch.at) (cells (after none c.args.attrs.now) (c.as_slice.ensures i))) (text_of c.args.doc.now)))
 
 pub returns-clause-fits : goal.returns-clause-fits
 returns-clause-fits c =

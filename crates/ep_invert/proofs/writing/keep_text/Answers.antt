@@ -1,20 +1,14 @@
-use Rattle.std.proofs.Common.{◌∙◌, ap₂, ◌++◌, sym, ◌≡◌, take-append-drop}
+use Rattle.std.proofs.Common.{ℕ, subst}
 use Rattle.std.proofs.lemmas.Result.{IfOk-weaker}
-use Rattle.ep_units.specs.Text.{Text}
-use Rattle.ep_cs.specs.Edit.Fate.{Keep}
-use Rattle.ep_invert.proofs.Writes.{parts_written, room_behind}
+use Rattle.ep_invert.specs.Paint.{painted}
+use Rattle.ep_invert.specs.Writing.{GoesOn}
+use Rattle.ep_invert.proofs.Writes.{lined_seen}
 use Rattle.ep_invert.proofs.writing.keep_text.Goals as goal
 
-pub keep_run-requires-2-clause-inside : goal.keep_run-requires-2-clause-inside
-keep_run-requires-2-clause-inside c =
-    let front = c.split_at.result.0.now in
-    let rear = c.split_at.result.1.now in
-    let whole : c.args.text.now ≡ front ++ rear = sym (take-append-drop c.last_line.result c.args.text.now) ∙ ap₂ (λ (a b : Text). a ++ b) (sym c.split_at.ensures.front) (sym c.split_at.ensures.back) in
-    room_behind (Keep c.args.attrs.now) c.args.out.now c.keep_run.new.out c.args.text.now front rear whole c.requires.inside c.in_ok-keep_run.ensures
+pub keep_seen-requires-clause-lined : goal.keep_seen-requires-clause-lined
+keep_seen-requires-clause-lined c = lined_seen c.of.result c.args.text.now c.of.ensures
 
 pub returns : goal.returns
 returns c =
-    let front = c.split_at.result.0.now in
-    let rear = c.split_at.result.1.now in
-    let whole : c.args.text.now ≡ front ++ rear = sym (take-append-drop c.last_line.result c.args.text.now) ∙ ap₂ (λ (a b : Text). a ++ b) (sym c.split_at.ensures.front) (sym c.split_at.ensures.back) in
-    IfOk-weaker c.keep_run-2.result _ _ (λ _ g. parts_written (Keep c.args.attrs.now) c.args.out.now c.keep_run.new.out c.keep_run-2.new.out c.args.text.now front rear whole c.in_ok-keep_run.ensures g) c.keep_run-2.ensures
+    let text = c.args.text.now in
+    IfOk-weaker c.keep_seen.result _ _ (λ _ g. subst (λ (n : ℕ). GoesOn c.args.out.now c.keep_seen.new.out (painted n c.args.attrs.now) text) c.of.ensures.units (g text c.of.ensures)) c.keep_seen.ensures

@@ -1,0 +1,138 @@
+-- Blocks one after another, and what is seen of their text.
+use Rattle.std.proofs.Common.{◌≡◌, ◌⊎◌, inl, inr, ℕ, suc, ◌+◌, ◌-◌, ◌≤◌, ◌<◌, ◌==◌, Bool, true, false, cond, ◌&&◌, ◌||◌, List, [], ◌∷◌, ◌++◌, length, take, drop, get_or, refl, sym, ap, ◌∙◌, arith, append_assoc, append-nil, length-append, length-drop, take-append-drop}
+use Rattle.std.proofs.lemmas.List.{map-append, take_more, length-map, take-append-le, drop-append-le}
+use Rattle.std.proofs.lemmas.Bool.{cases_eq}
+use Rattle.std.proofs.lemmas.Bool.Decides.{nat_tests}
+use Rattle.std.proofs.Math.Seq.{take-append-add, drop-append-add, take-length}
+use Rattle.std.specs.Arc.{arc_value}
+use Rattle.std.specs.declared.sync.Arc.{Arc}
+use Rattle.std.specs.declared.alloc.Global.{Global}
+use Rattle.ep_units.specs.Text.{Text, is_newline}
+use Rattle.ep_cs.specs.Doc.{Cell, text_of}
+use Rattle.ep_cs.specs.Lines.{count_lines, is_whole_lines}
+use Rattle.ep_apply.specs.Blocks.{all_cells, Sees}
+use Rattle.ep_apply.specs.Fitting.{ends_high, holds}
+use Rattle.ep_apply.specs.declared.seen.Seen.{Seen}
+
+pub length_text : (cs : List Cell) → length (text_of cs) ≡ length cs
+length_text cs = length-map cs (λ (c : Cell). c.unit)
+
+pub text-append : (cs ds : List Cell) → text_of (cs ++ ds) ≡ text_of cs ++ text_of ds
+text-append cs ds = map-append (λ (c : Cell). c.unit) cs ds
+
+pub blocks-append : (bs cs : List (Arc (List Cell) Global)) → all_cells (bs ++ cs) ≡ all_cells bs ++ all_cells cs
+blocks-append [] cs = refl
+blocks-append (b ∷ bs) cs = ap (λ ds. arc_value b ++ ds) (blocks-append bs cs) ∙ sym (append_assoc (arc_value b) (all_cells bs) (all_cells cs))
+
+pub one_block : (bs : List (Arc (List Cell) Global)) (b : Arc (List Cell) Global) → all_cells (bs ++ b ∷ []) ≡ all_cells bs ++ arc_value b
+one_block bs b = blocks-append bs (b ∷ []) ∙ ap (λ ds. all_cells bs ++ ds) (append-nil (arc_value b))
+
+pub next_block : (bs : List (Arc (List Cell) Global)) (i : ℕ) (b : Arc (List Cell) Global) → i < length bs → b ≡ get_or bs i b → all_cells (take (i + 1) bs) ≡ all_cells (take i bs) ++ arc_value b
+next_block bs i b h e = ap all_cells (take_more bs i b h) ∙ one_block (take i bs) (get_or bs i b) ∙ ap (λ (x : Arc (List Cell) Global). all_cells (take i bs) ++ arc_value x) (sym e)
+
+-- ---- what is seen of two texts
+
+pub lines-append : (us vs : Text) → count_lines (us ++ vs) ≡ count_lines us + count_lines vs
+lines-append [] vs = omega arith
+lines-append (u ∷ us) vs = omega (arith, lines-append us vs)
+
+pub lines_within : (us : Text) → count_lines us ≤ length us
+lines_within [] = omega arith
+lines_within (u ∷ us) = elim (is_newline u) as (λ b. cond b 1 0 + count_lines us ≤ suc (length us)) [ true ↦ omega (arith, lines_within us) | false ↦ omega (arith, lines_within us) ]
+
+pub whole-append : (us vs : Text) → 1 ≤ length vs → is_whole_lines (us ++ vs) ≡ is_whole_lines vs
+whole-append us [] h = absurd (omega (arith, h))
+whole-append [] (v ∷ vs) h = refl
+whole-append (u ∷ []) (v ∷ vs) h = refl
+whole-append (u ∷ (w ∷ us)) (v ∷ vs) h = whole-append (w ∷ us) (v ∷ vs) h
+
+pub high-append : (us vs : Text) → 1 ≤ length vs → ends_high (us ++ vs) ≡ ends_high vs
+high-append us [] h = absurd (omega (arith, h))
+high-append [] (v ∷ vs) h = refl
+high-append (u ∷ []) (v ∷ vs) h = refl
+high-append (u ∷ (w ∷ us)) (v ∷ vs) h = high-append (w ∷ us) (v ∷ vs) h
+
+no_line_behind : (us vs : Text) → count_lines us ≡ 0 → count_lines vs ≡ 0 → count_lines (us ++ vs) ≡ 0
+no_line_behind us vs h k = omega (arith, h, k, lines-append us vs)
+
+-- two texts, of which the second has no newline
+pub seen_on : (s t : Seen) (us vs : Text) → Sees s us → Sees t vs → 1 ≤ t.units → t.lines ≡ 0 → Sees (record { units = s.units + t.units; lines = s.lines + t.lines; tail = s.tail + t.units; high = t.high }) (us ++ vs)
+seen_on s t us vs a b h z =
+    let k : s.units - s.tail ≡ s.units + t.units - (s.tail + t.units) = omega arith in
+    let room : s.units - s.tail ≤ length us = omega (arith, a.units) in
+    record {
+      units = omega (arith, a.units, b.units, length-append us vs);
+      lines = omega (arith, a.lines, b.lines, lines-append us vs);
+      within = omega (arith, a.within);
+      before = ap (λ (n : ℕ). is_whole_lines (take n (us ++ vs))) (sym k) ∙ ap is_whole_lines (take-append-le (s.units - s.tail) us vs room) ∙ a.before;
+      behind =
+          ap (λ (n : ℕ). count_lines (drop n (us ++ vs))) (sym k) ∙ ap count_lines (drop-append-le (s.units - s.tail) us vs room)
+          ∙ no_line_behind (drop (s.units - s.tail) us) vs a.behind (sym b.lines ∙ z);
+      high = b.high ∙ sym (high-append us vs (omega (arith, h, b.units)));
+    }
+
+-- where it has one
+pub seen_anew : (s t : Seen) (us vs : Text) → Sees s us → Sees t vs → 1 ≤ t.lines → Sees (record { units = s.units + t.units; lines = s.lines + t.lines; tail = t.tail; high = t.high }) (us ++ vs)
+seen_anew s t us vs a b h =
+    let k = t.units - t.tail in
+    let n : length us + k ≡ s.units + t.units - t.tail = omega (arith, a.units, b.within) in
+    let parts : count_lines (take k vs) + count_lines (drop k vs) ≡ count_lines vs = sym (lines-append (take k vs) (drop k vs)) ∙ ap count_lines (take-append-drop k vs) in
+    let some : 1 ≤ length (take k vs) = omega (arith, parts, b.behind, b.lines, h, lines_within (take k vs)) in
+    record {
+      units = omega (arith, a.units, b.units, length-append us vs);
+      lines = omega (arith, a.lines, b.lines, lines-append us vs);
+      within = omega (arith, b.within);
+      before = ap (λ (n : ℕ). is_whole_lines (take n (us ++ vs))) (sym n) ∙ ap is_whole_lines (take-append-add us vs k) ∙ whole-append us (take k vs) some ∙ b.before;
+      behind = ap (λ (n : ℕ). count_lines (drop n (us ++ vs))) (sym n) ∙ ap count_lines (drop-append-add us vs k) ∙ b.behind;
+      high = b.high ∙ sym (high-append us vs (omega (arith, h, b.lines, lines_within vs)));
+    }
+
+unlined_end : (us : Text) → 1 ≤ length us → count_lines us ≡ 0 → is_whole_lines us ≡ false
+unlined_end [] h e = absurd (omega (arith, h))
+unlined_end (u ∷ []) h e = one (is_newline u) e
+  where
+    one : (b : Bool) → cond b 1 0 + 0 ≡ 0 → b ≡ false
+    one true e = absurd (omega (arith, e))
+    one false e = refl
+unlined_end (u ∷ (v ∷ us)) h e = unlined_end (v ∷ us) (omega arith) (omega (arith, e))
+
+not_zero : (n : ℕ) → (n ≡ 0 → ⊥) → (n == 0) ≡ false
+not_zero n h = grind (arith, nat_tests)
+
+itself : (n : ℕ) → (n == n) ≡ true
+itself n = grind (arith, nat_tests)
+
+-- a text is whole lines where nothing stands behind its last newline
+pub tail_none : (s : Seen) (us : Text) → Sees s us → is_whole_lines us ≡ (s.tail == 0)
+tail_none s us a = go (cases_eq s.tail 0)
+  where
+    go : (s.tail ≡ 0) ⊎ (s.tail ≡ 0 → ⊥) → is_whole_lines us ≡ (s.tail == 0)
+    go (inl z) =
+        let all : take (s.units - s.tail) us ≡ us = ap (λ (n : ℕ). take n us) (let e : s.units - s.tail ≡ length us = omega (arith, z, a.units) in e) ∙ take-length us in
+        sym (ap is_whole_lines all) ∙ a.before ∙ ap (λ (n : ℕ). n == 0) (sym z)
+    go (inr n) =
+        let rear = drop (s.units - s.tail) us in
+        let some : 1 ≤ length rear = omega (arith, n, a.units, a.within, length-drop (s.units - s.tail) us) in
+        ap is_whole_lines (sym (take-append-drop (s.units - s.tail) us)) ∙ whole-append (take (s.units - s.tail) us) rear some ∙ unlined_end rear some a.behind
+        ∙ sym (not_zero s.tail n)
+
+-- what is seen of a text tells whether so many newlines are true of it
+pub seen_holds : (l : ℕ) (s : Seen) (us : Text) → Sees s us → s.lines ≡ l → (l ≡ 0 → ⊥) → (s.tail == 0) ≡ holds l us
+seen_holds l s us a e n =
+    let counted : (count_lines us == l) ≡ true = ap (λ (k : ℕ). k == l) (sym a.lines ∙ e) ∙ itself l in
+    sym (λ j. counted j && (not_zero l n j || tail_none s us a j))
+
+pub few_lines : (s : Seen) (us : Text) → Sees s us → s.lines ≤ s.units
+few_lines s us a = omega (arith, a.lines, a.units, lines_within us)
+
+-- the last block's text is the end of the text
+pub last_high : (here : Text) (bs : List (Arc (List Cell) Global)) (b : Arc (List Cell) Global) → 1 ≤ length bs → b ≡ get_or bs (length bs - 1) b → 1 ≤ length (arc_value b)
+    → ends_high (here ++ text_of (all_cells bs)) ≡ ends_high (text_of (arc_value b))
+last_high here [] b some e h = absurd (omega (arith, some))
+last_high here (c ∷ []) b some e h =
+    let one : text_of (arc_value c ++ []) ≡ text_of (arc_value b) = ap text_of (append-nil (arc_value c)) ∙ ap (λ (x : Arc (List Cell) Global). text_of (arc_value x)) (sym e) in
+    ap (λ us. ends_high (here ++ us)) one ∙ high-append here (text_of (arc_value b)) (omega (arith, h, length_text (arc_value b)))
+last_high here (c ∷ (d ∷ bs)) b some e h =
+    let k : length (c ∷ (d ∷ bs)) - 1 ≡ suc (length (d ∷ bs) - 1) = omega arith in
+    ap (λ us. ends_high (here ++ us)) (text-append (arc_value c) (all_cells (d ∷ bs))) ∙ ap ends_high (sym (append_assoc here (text_of (arc_value c)) (text_of (all_cells (d ∷ bs)))))
+    ∙ last_high (here ++ text_of (arc_value c)) (d ∷ bs) b (omega arith) (e ∙ ap (λ (n : ℕ). get_or (c ∷ (d ∷ bs)) n b) k) h

@@ -1,5 +1,0 @@
-use Rattle.ep_apply.proofs.Walk.{IsOn}
-use Rattle.ep_apply.proofs.applying.edited.Given as goal
-
-abbrev pub invariant-loop-op : goal.invariant-loop-op
-invariant-loop-op l = IsOn l.op-items l.bank l.doc l.making.done l.making.rest l.op-index l.at l.used

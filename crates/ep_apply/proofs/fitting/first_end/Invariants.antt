@@ -1,7 +1,0 @@
-use Rattle.std.proofs.Common.{◌≡◌, ◌≤◌, ◌+◌, drop, length}
-use Rattle.ep_cs.specs.Runs.{all_passed}
-use Rattle.ep_apply.specs.Fitting.{first_end}
-use Rattle.ep_apply.proofs.fitting.first_end.Given as goal
-
-abbrev pub invariant-loop-i : goal.invariant-loop-i
-invariant-loop-i l = record { same : first_end l.at (drop l.i l.ops) (drop l.at l.text) ≡ first_end 0 l.ops l.text; room : l.at + all_passed (drop l.i l.ops) ≤ length l.text }

@@ -1,0 +1,119 @@
+//! What a run keeps of a document.
+
+ghost use Rattle.std.specs.Prelude.{◌≡◌, ◌≤◌, ◌<◌, ◌^◌, ◌+◌, ◌++◌, length, take, drop, map, OnOk, IfOk};
+ghost use Rattle.ep_cs.specs.Doc.{dressed};
+
+use crate::reading::Reading;
+use crate::span::Place;
+use crate::writer::Writer;
+use ep_attr::AttrMap;
+use ep_units::NoMemory;
+use std::alloc::Global;
+
+/// Moves what is next, of at most so many units, and answers how many it has.
+fn keep_piece(
+    out: &mut Writer,
+    rest: &mut Reading<'_>,
+    most: u32,
+    place: Place,
+) -> Result<u32, NoMemory>
+    requires some { 1 ≤ most }
+    requires inside { most ≤ length rest.old }
+    requires short { length out.old + most < 2 ^ 32 }
+    ensures units { IfOk result (λ n. (1 ≤ n) × (n ≤ most)) }
+    ensures done { IfOk result (λ n. out.new ≡ out.old ++ take n rest.old) }
+    ensures rest { IfOk result (λ n. rest.new ≡ drop n rest.old) }
+{
+    if let Some(block) = rest.take_block(most) {
+        out.push_block(block)?;
+        return Ok(block.seen().units);
+    }
+    match rest.take(most) {
+        None => Ok(most),
+        Some(stretch) => {
+            out.push(stretch.text, stretch.attrs, place)?;
+            Ok(stretch.text.len() as u32)
+        }
+    }
+}
+
+/// Moves the next stretch, of at most so many units, after a map, and answers how many it has.
+fn dress_piece(
+    alloc: Global,
+    out: &mut Writer,
+    rest: &mut Reading<'_>,
+    most: u32,
+    attrs: &AttrMap,
+) -> Result<u32, NoMemory>
+    requires some { 1 ≤ most }
+    requires inside { most ≤ length rest.old }
+    requires short { length out.old + most < 2 ^ 32 }
+    ensures units { IfOk result (λ n. (1 ≤ n) × (n ≤ most)) }
+    ensures done { IfOk result (λ n. out.new ≡ out.old ++ map (λ c. dressed c attrs.now) (take n rest.old)) }
+    ensures rest { IfOk result (λ n. rest.new ≡ drop n rest.old) }
+{
+    match rest.take(most) {
+        None => Ok(most),
+        Some(stretch) => {
+            let dressed = stretch.attrs.apply_doc(alloc, attrs)?;
+            out.push(stretch.text, &dressed, Place::Joined)?;
+            Ok(stretch.text.len() as u32)
+        }
+    }
+}
+
+/// Moves so many cells as they are.
+fn keep_bare(out: &mut Writer, rest: &mut Reading<'_>, units: u32) -> Result<(), NoMemory>
+    requires inside { units ≤ length rest.old }
+    requires short { length out.old + units < 2 ^ 32 }
+    ensures done { OnOk result (out.new ≡ out.old ++ take units rest.old) }
+    ensures rest { OnOk result (rest.new ≡ drop units rest.old) }
+{
+    let mut left = units;
+    let mut place = Place::Joined;
+    'pieces: while left > 0 {
+        left -= keep_piece(out, rest, left, place)?;
+        place = Place::Apart;
+    }
+    Ok(())
+}
+
+/// Moves so many cells after a map.
+fn keep_dressed(
+    alloc: Global,
+    out: &mut Writer,
+    rest: &mut Reading<'_>,
+    units: u32,
+    attrs: &AttrMap,
+) -> Result<(), NoMemory>
+    requires inside { units ≤ length rest.old }
+    requires short { length out.old + units < 2 ^ 32 }
+    ensures done { OnOk result (out.new ≡ out.old ++ map (λ c. dressed c attrs.now) (take units rest.old)) }
+    ensures rest { OnOk result (rest.new ≡ drop units rest.old) }
+{
+    let mut left = units;
+    'pieces: while left > 0 {
+        left -= dress_piece(alloc, out, rest, left, attrs)?;
+    }
+    Ok(())
+}
+
+/// Moves so many cells after a map.
+pub fn keep(
+    alloc: Global,
+    out: &mut Writer,
+    rest: &mut Reading<'_>,
+    units: u32,
+    attrs: &AttrMap,
+) -> Result<(), NoMemory>
+    requires inside { units ≤ length rest.old }
+    requires short { length out.old + units < 2 ^ 32 }
+    ensures done { OnOk result (out.new ≡ out.old ++ map (λ c. dressed c attrs.now) (take units rest.old)) }
+    ensures rest { OnOk result (rest.new ≡ drop units rest.old) }
+{
+    if attrs.is_none() {
+        keep_bare(out, rest, units)
+    } else {
+        keep_dressed(alloc, out, rest, units, attrs)
+    }
+}
