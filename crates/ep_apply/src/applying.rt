@@ -9,7 +9,7 @@ ghost use Rattle.ep_apply.specs.Makes.{run_makes};
 use crate::doc::Doc;
 use crate::moving::keep;
 use crate::reading::Reading;
-use crate::span::Place;
+use crate::span::Seam;
 use crate::writer::Writer;
 use ep_attr::AttrMap;
 use ep_cs::{Change, Kind, Op};
@@ -35,7 +35,7 @@ fn apply_op(
             rest.skip(op.units);
             Ok(())
         }
-        Kind::Insert => out.push(text, &op.attrs, Place::Joined),
+        Kind::Insert => out.push(text, &op.attrs, Seam::Joined),
     }
 }
 

@@ -8,7 +8,7 @@ ghost use Rattle.ep_apply.specs.Documents.{IsDocument, insertion};
 use crate::block::Block;
 use crate::passing::Passing;
 use crate::reading::Reading;
-use crate::span::Place;
+use crate::span::Seam;
 use crate::within::Within;
 use crate::writer::Writer;
 use ep_attr::AttrMap;
@@ -63,7 +63,7 @@ impl Doc {
         ensures { IfOk result (λ d. d ≡ plain (10 ∷ [])) }
     {
         let mut out = Writer::with_room(alloc, 1)?;
-        out.push(&[10], &AttrMap::none(alloc), Place::Joined)?;
+        out.push(&[10], &AttrMap::none(alloc), Seam::Joined)?;
         Ok(Doc {
             blocks: out.finish()?,
             units: 1,

@@ -4,7 +4,7 @@ ghost use Rattle.std.specs.Prelude.{◌≡◌, ◌≤◌, ◌<◌, ◌^◌, ◌+
 ghost use Rattle.ep_cs.specs.Doc.{dressed};
 
 use crate::reading::Reading;
-use crate::span::Place;
+use crate::span::Seam;
 use crate::writer::Writer;
 use ep_attr::AttrMap;
 use ep_units::NoMemory;
@@ -15,7 +15,7 @@ fn keep_piece(
     out: &mut Writer,
     rest: &mut Reading<'_>,
     most: u32,
-    place: Place,
+    seam: Seam,
 ) -> Result<u32, NoMemory>
     requires some { 1 ≤ most }
     requires inside { most ≤ length rest.old }
@@ -31,7 +31,7 @@ fn keep_piece(
     match rest.take(most) {
         None => Ok(most),
         Some(stretch) => {
-            out.push(stretch.text, stretch.attrs, place)?;
+            out.push(stretch.text, stretch.attrs, seam)?;
             Ok(stretch.text.len() as u32)
         }
     }
@@ -56,7 +56,7 @@ fn dress_piece(
         None => Ok(most),
         Some(stretch) => {
             let dressed = stretch.attrs.apply_doc(alloc, attrs)?;
-            out.push(stretch.text, &dressed, Place::Joined)?;
+            out.push(stretch.text, &dressed, Seam::Joined)?;
             Ok(stretch.text.len() as u32)
         }
     }
@@ -70,10 +70,10 @@ fn keep_bare(out: &mut Writer, rest: &mut Reading<'_>, units: u32) -> Result<(),
     ensures rest { OnOk result (rest.new ≡ drop units rest.old) }
 {
     let mut left = units;
-    let mut place = Place::Joined;
+    let mut seam = Seam::Joined;
     'pieces: while left > 0 {
-        left -= keep_piece(out, rest, left, place)?;
-        place = Place::Apart;
+        left -= keep_piece(out, rest, left, seam)?;
+        seam = Seam::Apart;
     }
     Ok(())
 }

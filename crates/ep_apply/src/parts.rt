@@ -4,7 +4,7 @@ ghost use Rattle.std.specs.Prelude.{◌≡◌, ◌≤◌, ◌<◌, ◌^◌, ◌+
 ghost use Rattle.ep_cs.specs.Doc.{text_of};
 ghost use Rattle.ep_cs.specs.Runs.{cells};
 
-use crate::span::{Place, Span, add_span, first_units};
+use crate::span::{Seam, Span, add_span, first_units};
 use crate::within::Within;
 use ep_attr::AttrMap;
 use ep_units::{NoMemory, Units};
@@ -89,7 +89,7 @@ impl Parts {
         alloc: Global,
         text: &[u16],
         attrs: &AttrMap,
-        place: Place,
+        seam: Seam,
     ) -> Result<(), NoMemory>
         requires some { 1 ≤ length text.now }
         requires short { length self.old + length text.now < 2 ^ 32 }
@@ -99,7 +99,7 @@ impl Parts {
         let attrs = attrs.copy(alloc)?;
         self.text.push_all(text)?;
         let units = text.len() as u32;
-        add_span(&mut self.spans, Span { units, attrs }, place);
+        add_span(&mut self.spans, Span { units, attrs }, seam);
         Ok(())
     }
 }

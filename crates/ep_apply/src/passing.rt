@@ -12,8 +12,8 @@ use std::sync::Arc;
 /// What is left of a text: of the block that is begun, and the blocks behind it.
 #[derive(Drop)]
 pub struct Passing<'a> {
-    pub here: &'a [u16],
-    pub blocks: &'a [Arc<Block>],
+    pub(crate) here: &'a [u16],
+    pub(crate) blocks: &'a [Arc<Block>],
 }
 
 impl<'a> Model for Passing<'a> {

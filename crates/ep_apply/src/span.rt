@@ -22,9 +22,9 @@ pub fn first_units(spans: &[Span]) -> u32
     }
 }
 
-/// Where a stretch is added.
+/// How a stretch is added.
 #[derive(Clone, Copy)]
-pub enum Place {
+pub enum Seam {
     /// Behind the last one, whose map isn't looked at.
     Apart,
     /// To the last one, where both have one map.
@@ -32,14 +32,14 @@ pub enum Place {
 }
 
 /// Adds a stretch.
-pub fn add_span(spans: &mut Vec<Span>, span: Span, place: Place)
+pub fn add_span(spans: &mut Vec<Span>, span: Span, seam: Seam)
     requires room { vec_len spans.old < vec_capacity spans.old }
     requires short { all_units spans.old.items + span.units < 2 ^ 32 }
     ensures { Adds spans.old.items span spans.new.items }
 {
-    match place {
-        Place::Apart => spans.push_reserved(span),
-        Place::Joined => push_span(spans, span),
+    match seam {
+        Seam::Apart => spans.push_reserved(span),
+        Seam::Joined => push_span(spans, span),
     }
 }
 

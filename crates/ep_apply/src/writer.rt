@@ -7,7 +7,7 @@ ghost use Rattle.ep_apply.specs.Blocks.{all_cells};
 
 use crate::block::Block;
 use crate::parts::Parts;
-use crate::span::Place;
+use crate::span::Seam;
 use ep_attr::AttrMap;
 use ep_units::NoMemory;
 use std::alloc::Global;
@@ -79,7 +79,7 @@ impl Writer {
     }
 
     /// Adds a piece of a text with a map, and answers how many units it has: all, if these are not too many for a block.
-    fn push_piece(&mut self, text: &[u16], attrs: &AttrMap, place: Place) -> Result<usize, NoMemory>
+    fn push_piece(&mut self, text: &[u16], attrs: &AttrMap, seam: Seam) -> Result<usize, NoMemory>
         requires some { 1 ≤ length text.now }
         requires short { length self.old + length text.now < 2 ^ 32 }
         ensures units { IfOk result (λ n. (1 ≤ n) × (n ≤ length text.now)) }
@@ -90,18 +90,18 @@ impl Writer {
             self.begin()?;
         }
         let units = if text.len() > MOST { PART } else { text.len() };
-        self.open.push(self.alloc, &text[..units], attrs, place)?;
+        self.open.push(self.alloc, &text[..units], attrs, seam)?;
         Ok(units)
     }
 
     /// Adds a text with a map.
-    pub fn push(&mut self, text: &[u16], attrs: &AttrMap, place: Place) -> Result<(), NoMemory>
+    pub fn push(&mut self, text: &[u16], attrs: &AttrMap, seam: Seam) -> Result<(), NoMemory>
         requires { length self.old + length text.now < 2 ^ 32 }
         ensures { OnOk result (self.new ≡ self.old ++ cells attrs.now text.now) }
     {
         let mut at = 0;
         'pieces: while at < text.len() {
-            at += self.push_piece(&text[at..], attrs, place)?;
+            at += self.push_piece(&text[at..], attrs, seam)?;
         }
         Ok(())
     }
@@ -112,10 +112,10 @@ impl Writer {
         ensures { OnOk result (self.new ≡ self.old ++ block.now) }
     {
         let mut rest = block.within();
-        let mut place = Place::Joined;
+        let mut seam = Seam::Joined;
         'stretches: while let Some(stretch) = rest.take(u32::MAX) {
-            self.push(stretch.text, stretch.attrs, place)?;
-            place = Place::Apart;
+            self.push(stretch.text, stretch.attrs, seam)?;
+            seam = Seam::Apart;
         }
         Ok(())
     }
