@@ -45,14 +45,14 @@ impl Model for Writer {
 }
 
 /// Closes the open block, where it isn't empty.
-fn close(alloc: Global, blocks: &mut Vec<Arc<Block>>, open: &mut Parts) -> Result<(), NoMemory>
-    ensures blocks { OnOk result (all_cells blocks.new.items ≡ all_cells blocks.old.items ++ open.old) }
-    ensures open { OnOk result (open.new ≡ []) }
+fn close(alloc: Global, blocks: &mut Vec<Arc<Block>>, parts: &mut Parts) -> Result<(), NoMemory>
+    ensures blocks { OnOk result (all_cells blocks.new.items ≡ all_cells blocks.old.items ++ parts.old) }
+    ensures parts { OnOk result (parts.new ≡ []) }
 {
-    if open.len() == 0 {
+    if parts.len() == 0 {
         return Ok(());
     }
-    let parts = mem::replace(open, Parts::empty(alloc));
+    let parts = mem::replace(parts, Parts::empty(alloc));
     blocks.push(Arc::new(alloc, Block::new(parts))?)?;
     Ok(())
 }
@@ -150,5 +150,44 @@ impl Writer {
         let mut open = self.open;
         close(self.alloc, &mut blocks, &mut open)?;
         Ok(blocks)
+    }
+}
+
+#[cfg(test)]
+mod tests {
+    use super::*;
+    use crate::moving::keep;
+    use crate::reading::Reading;
+    use crate::within::Within;
+    use std::test::Fail;
+
+    /// How many units each block has, and how many lists have it.
+    fn shares(alloc: Global, blocks: &[Arc<Block>]) -> Result<Vec<(u32, usize)>, NoMemory> {
+        let mut shares = Vec::new(alloc);
+        for block in blocks {
+            shares.push((block.seen().units, Arc::strong_count(block)))?;
+        }
+        Ok(shares)
+    }
+
+    #[test]
+    fn blocks_are_shared(rt: HostRuntime) -> Result<(), Fail> {
+        let alloc = rt.alloc();
+        let bare = AttrMap::none(alloc);
+        let mut out = Writer::with_room(alloc, 4)?;
+        out.push(&[97; 3000], &bare, Seam::Joined)?;
+        let blocks = out.finish()?;
+        let mut rest = Reading {
+            here: Within::nothing(),
+            blocks: &blocks,
+        };
+        let mut out = Writer::with_room(alloc, 4)?;
+        keep(alloc, &mut out, &mut rest, 1000, &bare)?;
+        out.push(&[98], &bare, Seam::Joined)?;
+        keep(alloc, &mut out, &mut rest, 2000, &bare)?;
+        let edited = out.finish()?;
+        let shares = shares(alloc, &edited)?;
+        assert!(rt; shares.as_slice() == [(768, 2), (769, 1), (768, 2), (696, 2)].as_slice());
+        Ok(())
     }
 }

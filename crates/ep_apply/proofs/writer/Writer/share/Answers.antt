@@ -6,6 +6,6 @@ use Rattle.ep_apply.proofs.writer.Writer.share.Goals as goal
 
 pub returns : goal.returns
 returns c =
-    ap₂ (λ (cs ds : List Cell). cs ++ ds) (ap all_cells c.in_ok-push.ensures.items ∙ one_block c.close.new.blocks.items c.in_ok-try_clone.field-0) c.in_ok-close.ensures.open
+    ap₂ (λ (cs ds : List Cell). cs ++ ds) (ap all_cells c.in_ok-push.ensures.items ∙ one_block c.close.new.blocks.items c.in_ok-try_clone.field-0) c.in_ok-close.ensures.parts
     ∙ append-nil _
     ∙ ap₂ (λ (cs ds : List Cell). cs ++ ds) (c.in_ok-close.ensures.blocks ∙ c.self.view_is) c.in_ok-try_clone.ensures
