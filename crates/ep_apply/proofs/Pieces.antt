@@ -94,14 +94,6 @@ pub all_are_left : (ss : List Span) → AreSpans ss → AreLeft ss (first_units 
 all_are_left [] h = tt
 all_are_left (s ∷ ss) h = h
 
-pub are_left_all : (ss : List Span) → AreLeft ss (first_units ss) → AreSpans ss
-are_left_all [] h = tt
-are_left_all (s ∷ ss) h = h
-
-pub length_left : (ss : List Span) (left : ℕ) (us : Text) → left_units ss left ≡ length us → length (left_of ss left us) ≡ length us
-length_left [] left us h = h
-length_left (s ∷ ss) left us h = length_spans (record { units = left; attrs = s.attrs } ∷ ss) us h
-
 -- a piece of the first stretch
 pub piece_of : (s : Span) (ss : List Span) (left k : ℕ) (us : Text) → k ≤ left
     → left_of (s ∷ ss) left us ≡ cells s.attrs (take k us) ++ left_of (s ∷ ss) (left - k) (drop k us)

@@ -21,11 +21,6 @@ use Rattle.ep_cs.proofs.TrueRuns.{stamped_true}
 use Rattle.ep_apply.specs.Fitting.{answer, holds, is_true, first_untrue, first_cut, first_end, cuts, untrue_or, fit_bad, ends_high, runs_bad}
 use Rattle.ep_apply.proofs.Ends.{ends_are}
 
-pub last_newline : (us : Text) → 1 ≤ length us → is_whole_lines us ≡ is_newline (get_or us (length us - 1) 0)
-last_newline [] h = absurd (omega (arith, h))
-last_newline (u ∷ []) h = refl
-last_newline (u ∷ (v ∷ us)) h = last_newline (v ∷ us) (omega arith) ∙ ap (λ (k : ℕ). is_newline (get_or (u ∷ (v ∷ us)) k 0)) (let e : suc (length (v ∷ us) - 1) ≡ length (u ∷ (v ∷ us)) - 1 = omega arith in e)
-
 pub last_high : (us : Text) → 1 ≤ length us → ends_high us ≡ is_high (get_or us (length us - 1) 0)
 last_high [] h = absurd (omega (arith, h))
 last_high (u ∷ []) h = refl

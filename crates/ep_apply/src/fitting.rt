@@ -22,8 +22,8 @@ fn is_true(op: &Op, seen: Seen) -> bool
     }
 }
 
-/// The first of two places at which a pair may be cut.
-fn first_cut(cut: Option<u64>, high: bool, at: u32) -> Option<u64>
+/// The first place at which a pair is cut, where one more end is looked at.
+fn cut_so_far(cut: Option<u64>, high: bool, at: u32) -> Option<u64>
     ensures { result ≡ first_of cut (cut_at high at) }
 {
     match cut {
@@ -48,9 +48,9 @@ fn follow_runs(ops: &[Op], rest: &mut Passing<'_>, units: u32) -> Result<(), Fit
             return Err(FitBad::Newlines(i as u64));
         }
         at += op.passed();
-        cut = first_cut(cut, seen.high, at);
+        cut = cut_so_far(cut, seen.high, at);
     }
-    match first_cut(cut, rest.ends_high(), units) {
+    match cut_so_far(cut, rest.ends_high(), units) {
         None => Ok(()),
         Some(at) => Err(FitBad::CutsPair(at)),
     }

@@ -29,9 +29,7 @@ pub fn ends_high(text: &[u16]) -> bool
     }
 }
 
-/// How many newlines a short text has.
-///
-/// Counted in 16 bits, eight units at once, which is a quarter of the time.
+/// How many newlines a short text has, counted in 16 bits, so that several units are looked at at once.
 fn short_lines(text: &[u16]) -> u16
     requires { length text.now < 2 ^ 16 }
     ensures { result ≡ count_lines text.now }

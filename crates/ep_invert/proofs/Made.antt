@@ -3,7 +3,7 @@ use Rattle.std.proofs.Common.{◌≡◌, ℕ, zero, suc, ◌+◌, ◌-◌, ◌<�
 use Rattle.ep_units.specs.Text.{Text, is_high, is_well_formed}
 use Rattle.ep_attr.specs.AttrMap.{AttrMap, none}
 use Rattle.ep_attr.proofs.SameMap.{both_true, same_map_itself}
-use Rattle.ep_cs.specs.Doc.{Cell, text_of, has_equal_halves, is_document}
+use Rattle.ep_cs.specs.Doc.{Cell, Doc, text_of, has_equal_halves, is_document}
 use Rattle.ep_cs.specs.Edit.{Fate, Edit, Step, inserts, edit_of}
 use Rattle.ep_cs.specs.Edit.Fate.{Drop, Keep}
 use Rattle.ep_cs.specs.Steps.{passed}
@@ -13,6 +13,7 @@ use Rattle.ep_cs.specs.Change.{Change, stamped}
 use Rattle.ep_cs.specs.Fits.{AreDocuments}
 use Rattle.ep_cs.specs.Draft.{Draft, blank, drafted, dropped_by, inserted_by, new_length}
 use Rattle.ep_cs.proofs.Canonical.{times}
+use Rattle.ep_cs.proofs.Plain.{length-text_of}
 use Rattle.ep_cs.proofs.Drafts.{dropped-append, inserted-append, dropped_times, kept_times, inserted_times, inserted_units}
 use Rattle.ep_cs.proofs.Documents.{AreBlocks, blocks}
 use Rattle.ep_cursor.proofs.Made.{passed-append, passed_times, passed_new}
@@ -90,15 +91,24 @@ pub record IsFront (us : Text) (at end : ℕ) (f : Fate) (d0 d1 d2 : Draft) (m :
   pub front : GoesOn d0 d1 (painted at m) (take at us)
   pub stretch : GoesOn d1 d2 (times (end - at) f) (take (end - at) (drop at us))
 
--- the front is kept: there is room for the stretch
-pub stretch_room : (us : Text) (at end : ℕ) (d0 d1 : Draft) (m : AttrMap) → at ≤ end → end ≤ length us → d0 ≡ blank (length us) → GoesOn d0 d1 (painted at m) (take at us) → passed d1.steps + (end - at) ≤ d1.old
-stretch_room us at end d0 d1 m h k e g =
-    let from : passed d0.steps ≡ 0 = ap (λ (d : Draft). passed d.steps) e in
-    let old : d0.old ≡ length us = ap (λ (d : Draft). d.old) e in
-    omega (arith, ap passed g.steps, passed-append d0.steps (painted at m), passed_times at (Keep m), from, old, g.old, h, k)
+-- the front and the stretch, as they are passed in a document
+pub front_of : (doc : Doc) (at end n : ℕ) (f : Fate) (d0 d1 d2 : Draft) (m : AttrMap) (all rest : Text) → at ≤ end → end ≤ length doc → d0 ≡ blank n → n ≡ length doc → m ≡ none → all ≡ text_of doc → rest ≡ drop at all
+    → GoesOn d0 d1 (painted at m) (take at all) → GoesOn d1 d2 (times (end - at) f) (take (end - at) rest) → IsFront (text_of doc) at end f d0 d1 d2 m
+front_of doc at end n f d0 d1 d2 m all rest h k e l b a r g w =
+    let long : length (text_of doc) ≡ length doc = length-text_of doc in
+    record {
+      order = h;
+      inside = omega (arith, long, k);
+      nothing = e ∙ ap blank (l ∙ sym long);
+      bare = b;
+      front = subst (λ (us : Text). GoesOn d0 d1 (painted at m) (take at us)) a g;
+      stretch = subst (λ (us : Text). GoesOn d1 d2 (times (end - at) f) (take (end - at) us)) (r ∙ ap (drop at) a) w;
+    }
 
-pub old_is : (us : Text) (d0 d1 : Draft) (s : List Step) (t : Text) → d0 ≡ blank (length us) → GoesOn d0 d1 s t → d1.old ≡ length us
-old_is us d0 d1 s t e g = g.old ∙ ap (λ (d : Draft). d.old) e
+-- the front is kept: there is room for the stretch
+pub stretch_room : (doc : Doc) (at end n : ℕ) (d0 d1 : Draft) (m : AttrMap) (us : Text) → at ≤ end → end ≤ length doc → d0 ≡ blank n → n ≡ length doc → GoesOn d0 d1 (painted at m) us → passed d1.steps + (end - at) ≤ d1.old
+stretch_room doc at end n d0 d1 m us h k e l g =
+    omega (arith, ap passed g.steps, passed-append d0.steps (painted at m), passed_times at (Keep m), ap (λ (d : Draft). passed d.steps) e, ap (λ (d : Draft). d.old) e, l, g.old, h, k)
 
 pub front_written : (us : Text) (at end : ℕ) (f : Fate) (d0 d1 d2 : Draft) (m : AttrMap) → IsFront us at end f d0 d1 d2 m
     → GoesOn (blank (length us)) d2 (kept at ++ times (end - at) f) (take at us ++ take (end - at) (drop at us))

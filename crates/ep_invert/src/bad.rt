@@ -12,6 +12,7 @@ pub enum SpliceBad {
     /// A pair is cut whose second half stands at this place.
     #[error("the pair at {0} is cut")]
     CutsPair(u64),
+    /// Memory is wanting.
     #[error("out of memory")]
     NoMemory,
 }
