@@ -1,12 +1,13 @@
 -- What digits spell, and how what is written is read back.
-use Rattle.std.proofs.Common.{◌≡◌, ℕ, zero, suc, ◌+◌, ◌*◌, ◌/◌, ◌%◌, ◌<◌, ◌≤◌, Bool, true, false, cond, nat_lt, ◌==◌, [], ◌∷◌, ◌++◌, length, get_or, take, drop, fold, take_while, Some, None, if◌then◌else◌, refl, sym, ap, ◌∙◌, arith, length-append, append_assoc, eq-eqb, subst}
+use Rattle.std.proofs.Common.{◌≡◌, ℕ, zero, suc, ◌+◌, ◌*◌, ◌/◌, ◌%◌, ◌<◌, ◌≤◌, Bool, true, false, cond, nat_lt, ◌==◌, [], ◌∷◌, ◌++◌, length, get_or, take, drop, fold, Some, None, refl, sym, ap, ◌∙◌, arith, length-append, append_assoc, eq-eqb, subst}
+use Rattle.std.proofs.Math.Numerals.{one-add}
 use Rattle.std.proofs.lemmas.Bool.Decides.{nat_tests}
 use Rattle.std.proofs.lemmas.List.{drop_at, take_at, take-append-drop}
 use Rattle.std.proofs.lemmas.List.Folds.{length-prefix_len, prefix_len-append}
 use Rattle.std.proofs.lemmas.List.Sums.{fold-append, fold_more, fold_push}
 use Rattle.std.specs.List.{prefix_len}
 use Rattle.ep_units.specs.Text.{Text}
-use Rattle.ep_units.specs.Base36.{digit, digits_in, write36, is_digit, digit_value, value36, digits_at, number_of, read36}
+use Rattle.ep_units.specs.Base36.{digit, digits_in, write36, is_digit, digit_value, value36, most_read, number_read, digits_of, behind, digits_at, number_of, read36}
 
 abbrev more : ℕ → ℕ → ℕ
 more value u = value * 36 + digit_value u
@@ -25,12 +26,12 @@ value36_no_less ds i =
     rw whole (no_less (value36 (take i ds)) (drop i ds))
 
 -- a digit that brings the number above the limit decides
-pub above_limit : (ds : Text) (i value d : ℕ) → i < length ds → value ≡ value36 (take i ds) → d ≡ digit_value (get_or ds i 0) → 4294967295 < value * 36 + d
-    → None ≡ (if nat_lt 4294967295 (value36 ds) then None else Some (value36 ds))
+pub above_limit : (ds : Text) (i value d : ℕ) → i < length ds → value ≡ value36 (take i ds) → d ≡ digit_value (get_or ds i 0) → most_read < value * 36 + d
+    → None ≡ number_read ds
 above_limit ds i value d h value_is d_is large =
     let grown = value36_no_less ds (i + 1) in
-    let above : 4294967295 < value36 ds = omega (arith, value36_more ds i h) in
-    let test : nat_lt 4294967295 (value36 ds) ≡ true = grind (arith, nat_tests) in
+    let above : most_read < value36 ds = omega (arith, value36_more ds i h) in
+    let test : nat_lt most_read (value36 ds) ≡ true = grind (arith, nat_tests) in
     rw test refl
 
 is_digit-digit : (d : ℕ) → d < 36 → is_digit (digit d) ≡ true
@@ -74,23 +75,43 @@ write36-spells : (n : ℕ) → Spells n (write36 n)
 unfolding write36
 write36-spells n = digits_in-spells (suc n) n (omega arith)
 
--- the run of digits ends where no digit follows
-run_ends : (n : ℕ) (ds behind : Text) → Spells n ds → digits_at behind 0 ≡ [] → take_while is_digit (ds ++ behind) ≡ ds
-run_ends n ds behind s none =
-    let no_more : prefix_len is_digit behind ≡ 0 = sym (length-prefix_len is_digit behind) ∙ ap length none in
-    let long : prefix_len is_digit (ds ++ behind) ≡ length ds = run_on ds behind s.all_digits ∙ omega arith in
-    ap (λ k. take k (ds ++ behind)) long ∙ take_at ds behind (length ds) refl
+-- the run of digits at the front, by its length
+pub digits_of-prefix : (us : Text) → take (prefix_len is_digit us) us ≡ digits_of us
+digits_of-prefix [] = refl
+digits_of-prefix (u ∷ us) =
+    elim (is_digit u) as (λ b. take (cond b (1 + prefix_len is_digit us) 0) (u ∷ us) ≡ cond b (u ∷ digits_of us) []) [
+      | true ↦ rw one-add (ap (λ ds. u ∷ ds) (digits_of-prefix us))
+      | false ↦ refl
+    ]
 
-number_of-spells : (n at : ℕ) (ds : Text) → Spells n ds → n ≤ 4294967295 → number_of ds at ≡ Some (n, at + length ds)
+pub behind-prefix : (us : Text) → drop (prefix_len is_digit us) us ≡ behind us
+behind-prefix [] = refl
+behind-prefix (u ∷ us) =
+    elim (is_digit u) as (λ b. drop (cond b (1 + prefix_len is_digit us) 0) (u ∷ us) ≡ cond b (behind us) (u ∷ us)) [
+      | true ↦ rw one-add (behind-prefix us)
+      | false ↦ refl
+    ]
+
+length-digits_of : (us : Text) → length (digits_of us) ≡ prefix_len is_digit us
+length-digits_of us = ap length (sym (digits_of-prefix us)) ∙ length-prefix_len is_digit us
+
+-- the run of digits ends where no digit follows
+run_ends : (n : ℕ) (ds behind : Text) → Spells n ds → digits_at behind 0 ≡ [] → digits_of (ds ++ behind) ≡ ds
+run_ends n ds behind s none =
+    let no_more : prefix_len is_digit behind ≡ 0 = sym (length-digits_of behind) ∙ ap length none in
+    let long : prefix_len is_digit (ds ++ behind) ≡ length ds = run_on ds behind s.all_digits ∙ omega arith in
+    sym (digits_of-prefix (ds ++ behind)) ∙ ap (λ k. take k (ds ++ behind)) long ∙ take_at ds behind (length ds) refl
+
+number_of-spells : (n at : ℕ) (ds : Text) → Spells n ds → n ≤ most_read → number_of ds at ≡ Some (n, at + length ds)
 number_of-spells n at ds s h =
     let some : (length ds == 0) ≡ false = grind (arith, nat_tests, s.some_digit) in
-    let small : nat_lt 4294967295 n ≡ false = grind (arith, nat_tests) in
+    let small : nat_lt most_read n ≡ false = grind (arith, nat_tests) in
     rw (s.value, some, small) refl
 
-pub read36-write36 : (before behind : Text) (n : ℕ) → n ≤ 4294967295 → digits_at behind 0 ≡ [] → read36 (before ++ write36 n ++ behind) (length before) ≡ Some (n, length before + length (write36 n))
+pub read36-write36 : (before behind : Text) (n : ℕ) → n ≤ most_read → digits_at behind 0 ≡ [] → read36 (before ++ write36 n ++ behind) (length before) ≡ Some (n, length before + length (write36 n))
 unfolding read36
 read36-write36 before behind n h none =
     let spells = write36-spells n in
     let run : digits_at (before ++ write36 n ++ behind) (length before) ≡ write36 n =
-    rw append_assoc (ap (take_while is_digit) (drop_at before (write36 n ++ behind) (length before) refl)) ∙ run_ends n (write36 n) behind spells none in
+    rw append_assoc (ap digits_of (drop_at before (write36 n ++ behind) (length before) refl)) ∙ run_ends n (write36 n) behind spells none in
     ap (λ ds. number_of ds (length before)) run ∙ number_of-spells n (length before) (write36 n) spells h

@@ -21,11 +21,20 @@ group_of id = if has_group id then Some (take 18 id) else None
 abbrev pub name_of : Text → Text
 name_of id = if has_group id then drop 19 id else id
 
--- 1 to 50 units without `$`
-abbrev pub is_name : Text → Bool
-is_name name = nat_le 1 (length name) && nat_le (length name) 50 && not (list_any (λ u. u == 36) name)
+-- how many units a name has at most
+abbrev pub most_name_units : ℕ
+most_name_units = 50
 
--- a pad's own id: a name, behind a group part or alone, of at most 119 bytes in UTF-8, that is no read-only id
+-- a unit at least, not too many, and none of them `$`
+abbrev pub is_name : Text → Bool
+is_name name = nat_le 1 (length name) && nat_le (length name) most_name_units && not (list_any (λ u. u == 36) name)
+
+-- how many bytes in UTF-8 a name has at most
+abbrev pub most_name_bytes : ℕ
+most_name_bytes = 100
+
+-- a pad's own id: a name that is short enough in UTF-8, behind a group part or alone, that is no read-only id
 abbrev pub is_own_id : Text → Bool
 is_own_id id =
-    is_well_formed id && is_name (name_of id) && not (starts_with nat_eq id (codes "r.")) && nat_le (length (utf8_of id)) 119
+    is_well_formed id && is_name (name_of id) && not (starts_with nat_eq id (codes "r."))
+    && nat_le (length (utf8_of (name_of id))) most_name_bytes

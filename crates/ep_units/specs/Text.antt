@@ -36,3 +36,9 @@ text_le a b = is_le (text_cmp a b)
 
 abbrev pub is_newline : ℕ → Bool
 is_newline u = u == 10
+
+-- its last unit is a newline
+abbrev pub ends_in_newline : Text → Bool
+ends_in_newline [] = false
+ends_in_newline (u ∷ []) = is_newline u
+ends_in_newline (u ∷ (v ∷ us)) = ends_in_newline (v ∷ us)

@@ -1,8 +1,8 @@
 //! Numbers in base 36.
 
-ghost use Rattle.std.specs.Prelude.{◌≡◌, ◌<◌, ◌≤◌, ◌++◌, OnOk, OnErr, IfSome, Some, None, if◌then◌else◌, nat_lt, length};
+ghost use Rattle.std.specs.Prelude.{◌≡◌, ◌<◌, ◌≤◌, ◌++◌, OnOk, OnErr, IfSome, length, take, drop};
 ghost use Rattle.std.specs.List.{prefix_len};
-ghost use Rattle.ep_units.specs.Base36.{digit, digit_value, is_digit, read36, value36, write36};
+ghost use Rattle.ep_units.specs.Base36.{behind, digit, digit_value, digits_of, is_digit, number_read, read36, write36};
 
 use crate::no_memory::NoMemory;
 use crate::units::Units;
@@ -10,8 +10,8 @@ use crate::units::Units;
 // 36 ^ 13 is above 2 ^ 64
 const MOST_DIGITS: usize = 13;
 
-/// The greatest number that is read.
-const MOST_READ: u64 = 4_294_967_295;
+/// The greatest number that is read: of changeset text no number and no length is above it.
+pub const MOST_READ: u64 = 4_294_967_295;
 
 /// Appends the shortest spelling of a number.
 pub fn write36(n: u64, out: &mut Units) -> Result<(), NoMemory>
@@ -41,23 +41,43 @@ fn digit(value: u64) -> u16
     }
 }
 
+/// The digits that a text begins with.
+#[derive(Clone, Copy, Debug, PartialEq, Eq)]
+pub struct DigitRun {
+    pub len: usize,
+    /// The number that they spell, where it isn't above `MOST_READ`.
+    pub number: Option<u64>,
+}
+
+/// How many digits the units begin with, and the number that they spell.
+pub fn digits36(units: &[u16]) -> DigitRun
+    ensures digits { take result.len units.now ≡ digits_of units.now }
+    ensures behind { drop result.len units.now ≡ behind units.now }
+    ensures within { result.len ≤ length units.now }
+    ensures number { result.number ≡ number_read (digits_of units.now) }
+{
+    let len = digits_len(units);
+    DigitRun {
+        len,
+        number: value36(&units[..len]),
+    }
+}
+
 /// The number that begins at a place, and the place behind its last digit.
 ///
-/// None where no digit stands there, or where the number is above 4,294,967,295.
+/// None where no digit stands there, or where the number is above `MOST_READ`.
 #[tactic(auto, unfolding(crate::specs::Base36::read36))]
 pub fn read36(units: &[u16], at: usize) -> Option<(u64, usize)>
     ensures number { result ≡ read36 units.now at }
-    ensures limit { IfSome result (λ r. r.0 ≤ 4294967295) }
+    ensures limit { IfSome result (λ r. r.0 ≤ MOST_READ) }
     ensures goes_on { IfSome result (λ r. at < r.1) }
     ensures within { IfSome result (λ r. r.1 ≤ length units.now) }
 {
-    let rest = units.get(at..)?;
-    let len = digits_len(rest);
-    if len == 0 {
+    let digits = digits36(units.get(at..)?);
+    if digits.len == 0 {
         return None;
     }
-    let value = value36(&rest[..len])?;
-    Some((value, at + len))
+    Some((digits.number?, at + digits.len))
 }
 
 /// How many digits the units begin with.
@@ -70,7 +90,8 @@ fn digits_len(units: &[u16]) -> usize
 
 /// The number that digits spell, if it is not too large to be read.
 fn value36(digits: &[u16]) -> Option<u64>
-    ensures { result ≡ (if nat_lt 4294967295 (value36 digits.now) then None else Some (value36 digits.now)) }
+    ensures number { result ≡ number_read digits.now }
+    ensures limit { IfSome result (λ n. n ≤ MOST_READ) }
 {
     let mut value = 0;
     for digit in digits {

@@ -4,7 +4,7 @@ ghost use Rattle.std.specs.Prelude.{◌≡◌, ◌↔◌, ◌<◌, ◌≤◌, �
 ghost use Rattle.std.specs.Str.{IsUtf8};
 ghost use Rattle.ep_units.specs.Text.{Text, is_well_formed};
 ghost use Rattle.ep_units.specs.Halves.{first_lone};
-ghost use Rattle.ep_units.specs.Base36.{digits_at, read36, write36};
+ghost use Rattle.ep_units.specs.Base36.{digits_at, most_read, read36, write36};
 ghost use Rattle.ep_units.specs.Utf8.{units_of, utf8_of};
 
 /// A text is well-formed exactly where no half stands alone.
@@ -21,6 +21,6 @@ pub fn utf8_and_units_are_one()
 
 /// A number that is written is read back, whatever stands before it, where no digit stands behind it.
 pub fn write36_is_read_back()
-    ensures { (before behind : Text) (n : ℕ) → n ≤ 4294967295 → digits_at behind 0 ≡ []
+    ensures { (before behind : Text) (n : ℕ) → n ≤ most_read → digits_at behind 0 ≡ []
         → read36 (before ++ write36 n ++ behind) (length before) ≡ Some (n, length before + length (write36 n)) }
 {}

@@ -20,8 +20,9 @@ const READ_ONLY: [u16; 2] = [114, 46];
 const GROUP_UNITS: usize = 18;
 
 const MOST_NAME_UNITS: usize = 50;
-// a group part has 19, so 100 are left behind one
-const MOST_BYTES: usize = 119;
+
+/// In UTF-8.
+const MOST_NAME_BYTES: usize = 100;
 
 /// The own id of a pad.
 #[derive(Drop)]
@@ -49,7 +50,8 @@ impl PadId {
         if !id.well_formed() || !has_form(id.as_slice()) {
             return Ok(None);
         }
-        if id.to_text_lossy(alloc)?.len() > MOST_BYTES {
+        let name = Units::from_slice(alloc, name_of(id.as_slice()))?;
+        if name.to_text_lossy(alloc)?.len() > MOST_NAME_BYTES {
             return Ok(None);
         }
         Ok(Some(PadId {
@@ -163,15 +165,25 @@ mod tests {
     }
 
     #[test]
-    fn bytes_of_an_id(rt: HostRuntime) -> Result<(), Fail> {
-        // 39 units of three bytes and two of one, and one byte more
-        for (more, own) in [("ab", true), ("abc", false)] {
-            let mut text = Units::new(rt.alloc());
-            for _ in 0..39 {
+    fn bytes_of_a_name(rt: HostRuntime) -> Result<(), Fail> {
+        let group = "g.0aA9bB8cC7dD6eE5$";
+        // 33 units of three bytes and one of one, and one byte more
+        for (part, more, own) in [
+            ("", "a", true),
+            ("", "ab", false),
+            (group, "a", true),
+            (group, "ab", false),
+        ] {
+            let mut text = Units::from_str(rt.alloc(), part)?;
+            for _ in 0..33 {
                 text.push(0x6C34)?;
             }
             text.push_all(Units::from_str(rt.alloc(), more)?.as_slice())?;
-            assert_eq!(rt; PadId::read(rt.alloc(), &text)?.is_some(), own);
+            assert_eq!(rt;
+                PadId::read(rt.alloc(), &text)?.is_some(),
+                own,
+                "at {part}..{more}"
+            );
         }
         Ok(())
     }
