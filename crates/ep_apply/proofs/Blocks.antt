@@ -11,7 +11,8 @@ use Rattle.ep_units.specs.Text.{Text, is_newline}
 use Rattle.ep_cs.specs.Doc.{Cell, text_of}
 use Rattle.ep_cs.specs.Lines.{count_lines, is_whole_lines}
 use Rattle.ep_apply.specs.Blocks.{all_cells, Sees}
-use Rattle.ep_apply.specs.Fitting.{ends_high, holds}
+use Rattle.ep_cs.specs.Fitting.{holds}
+use Rattle.ep_apply.specs.PairEnds.{ends_high}
 use Rattle.ep_apply.specs.declared.seen.Seen.{Seen}
 
 pub length_text : (cs : List Cell) → length (text_of cs) ≡ length cs

@@ -6,7 +6,7 @@ use Rattle.std.specs.declared.alloc.Global.{Global}
 use Rattle.ep_units.specs.Text.{Text}
 use Rattle.ep_cs.specs.Doc.{Cell}
 use Rattle.ep_cs.specs.Lines.{count_lines, is_whole_lines}
-use Rattle.ep_apply.specs.Fitting.{ends_high}
+use Rattle.ep_apply.specs.PairEnds.{ends_high}
 use Rattle.ep_apply.specs.declared.seen.Seen.{Seen}
 
 -- the cells of blocks, one after another

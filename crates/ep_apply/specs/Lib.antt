@@ -2,5 +2,5 @@ pub mod Spans
 pub mod Blocks
 pub mod Makes
 pub mod Inside
-pub mod Fitting
+pub mod PairEnds
 pub mod Documents

@@ -5,7 +5,8 @@ ghost use Rattle.ep_units.specs.Text.{Text};
 ghost use Rattle.ep_cs.specs.Fits.{Fits};
 ghost use Rattle.ep_cs.specs.Runs.{all_passed};
 ghost use Rattle.ep_apply.specs.Blocks.{Sees};
-ghost use Rattle.ep_apply.specs.Fitting.{answer, cut_at, first_end, first_of, first_untrue, fit_bad, is_true, runs_bad};
+ghost use Rattle.ep_cs.specs.Fitting.{answer, first_untrue, fit_bad, is_true};
+ghost use Rattle.ep_apply.specs.PairEnds.{cut_at, first_end, first_of, runs_bad};
 
 use crate::doc::Doc;
 use crate::passing::Passing;

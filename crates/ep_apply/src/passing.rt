@@ -2,7 +2,7 @@
 
 ghost use Rattle.std.specs.Prelude.{◌≡◌, ◌≤◌, length, take, drop};
 ghost use Rattle.ep_apply.specs.Blocks.{Sees};
-ghost use Rattle.ep_apply.specs.Fitting.{ends_high};
+ghost use Rattle.ep_apply.specs.PairEnds.{ends_high};
 
 use crate::block::Block;
 use crate::seen::{Seen, ends_high};

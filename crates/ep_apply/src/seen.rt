@@ -4,7 +4,7 @@ ghost use Rattle.std.specs.Prelude.{◌≡◌, ◌≤◌, ◌<◌, ◌^◌, ◌+
 ghost use Rattle.ep_units.specs.Text.{Text};
 ghost use Rattle.ep_cs.specs.Lines.{count_lines};
 ghost use Rattle.ep_apply.specs.Blocks.{Sees};
-ghost use Rattle.ep_apply.specs.Fitting.{ends_high};
+ghost use Rattle.ep_apply.specs.PairEnds.{ends_high};
 
 use ep_cs::{count_lines, last_line};
 use ep_units::is_high;

@@ -1,7 +1,7 @@
 -- Documents stay documents where they are put one behind another, and under an edit that cuts no pair.
 use Rattle.std.proofs.Common.{◌≡◌, Bool, true, false, cond, not, ◌&&◌, ◌||◌, List, [], ◌∷◌, ◌++◌, map, length, refl, sym, ap, ap₂, ◌∙◌, subst, T, arith, append_assoc, append-nil}
 use Rattle.std.proofs.lemmas.List.{map-append}
-use Rattle.ep_units.specs.Text.{Text, is_high, is_low, is_paired, is_well_formed}
+use Rattle.ep_units.specs.Text.{is_high, is_low, is_paired, is_well_formed}
 use Rattle.ep_attr.specs.AttrMap.{AttrMap, same_map, after}
 use Rattle.ep_attr.proofs.SameMap.{both_true, first_true, second_true, exact_map, same_map_itself}
 use Rattle.ep_cs.specs.Doc.{Cell, Doc, text_of, dressed, has_equal_halves, is_document}
@@ -10,20 +10,13 @@ use Rattle.ep_cs.specs.Edit.Fate.{Drop, Keep}
 use Rattle.ep_cs.specs.Edit.Step.{Insert, Pass}
 use Rattle.ep_cs.specs.Fits.{same_fate, goes_on, keeps_pairs, ArePieces, AreDocuments}
 use Rattle.ep_cs.proofs.Pairs.{same_cells}
-use Rattle.ep_cs.proofs.Whole.{apply_whole}
+use Rattle.ep_cs.proofs.Whole.{apply_whole, paired-append}
 
 well_formed : (d : Doc) → is_document d ≡ true → is_well_formed (text_of d) ≡ true
 well_formed d h = first_true _ _ h
 
 equal_halves : (d : Doc) → is_document d ≡ true → has_equal_halves d ≡ true
 equal_halves d h = second_true (is_well_formed (text_of d)) _ h
-
-paired-append : (half : Bool) (t us : Text) → is_paired half t ≡ true → is_well_formed us ≡ true → is_paired half (t ++ us) ≡ true
-paired-append true [] us h e = absurd (subst T (sym h) tt)
-paired-append false [] us h e = e
-paired-append half (u ∷ t) us h e =
-    let first = cond half (is_low u) (not (is_low u)) in
-    both_true _ _ (first_true first _ h) (paired-append (is_high u) t us (second_true first _ h) e)
 
 -- the first cell has this map
 abbrev begins : AttrMap → Doc → Bool

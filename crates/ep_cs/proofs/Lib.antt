@@ -4,6 +4,8 @@ pub mod Items
 pub mod Diamond
 pub mod Pairs
 pub mod Whole
+pub mod EditFits
+pub mod Refusals
 pub mod Documents
 pub mod Plain
 pub mod Splices

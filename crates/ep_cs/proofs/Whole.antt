@@ -10,14 +10,15 @@ use Rattle.ep_attr.proofs.SameMap.{both_true, first_true, second_true}
 use Rattle.ep_cs.proofs.Pairs.{same_cells}
 
 -- a well-formed text may stand behind one that ends in no first half
-paired-append : (half : Bool) (t us : Text) → is_paired half t ≡ true → is_well_formed us ≡ true → is_paired half (t ++ us) ≡ true
+pub paired-append : (half : Bool) (t us : Text) → is_paired half t ≡ true → is_well_formed us ≡ true → is_paired half (t ++ us) ≡ true
 paired-append true [] us h e = absurd (subst T (sym h) tt)
 paired-append false [] us h e = e
 paired-append half (u ∷ t) us h e =
     let first = cond half (is_low u) (not (is_low u)) in
     both_true _ _ (first_true first _ h) (paired-append (is_high u) t us (second_true first _ h) e)
 
-abbrev is_kept : Fate → Bool
+-- whether a place stays
+abbrev pub is_kept : Fate → Bool
 is_kept Drop = false
 is_kept (Keep m) = true
 
@@ -59,7 +60,7 @@ next_place true f p c rest ps on w low h = second_half f p.fate p.before c rest 
 next_place false f p c rest ps on w low h = ap (λ b. is_paired b (text_of (placed p.before p.fate c rest))) (no_half f) ∙ whole_place p.before p.fate c rest w low h
 
 -- a first half goes on with its run
-goes_with : (h a : Bool) → (not h || a) ≡ true → h ≡ true → a ≡ true
+pub goes_with : (h a : Bool) → (not h || a) ≡ true → h ≡ true → a ≡ true
 goes_with true a e h = e
 goes_with false a e h = absurd (subst T (sym h) tt)
 

@@ -6,6 +6,8 @@ pub mod Runs
 pub mod Normal
 pub mod Change
 pub mod Fits
+pub mod Fitting
+pub mod EditFits
 pub mod Made
 pub mod Follow
 pub mod Rebase

@@ -1,11 +1,14 @@
 //! The laws of edits, over the definitions that every call on changes cites.
 
-ghost use Rattle.std.specs.Prelude.{◌≡◌, ℕ, ◌+◌, ◌≤◌, Bool, true, not, List, [], ◌++◌, length, take, drop};
+ghost use Rattle.std.specs.Prelude.{◌≡◌, ℕ, ◌+◌, ◌≤◌, Bool, true, not, List, [], ◌++◌, length, take, drop, None};
 ghost use Rattle.ep_units.specs.Text.{Text, is_well_formed};
 ghost use Rattle.ep_cs.specs.Doc.{Cell, Doc, text_of};
 ghost use Rattle.ep_cs.specs.Edit.{Edit, IsSettled, apply, compose, identity, items, apply_items};
 ghost use Rattle.ep_cs.specs.Change.{Change, stamped};
 ghost use Rattle.ep_cs.specs.Fits.{Fits, ArePieces, keeps_pairs, is_identity};
+ghost use Rattle.ep_cs.specs.EditFits.{fits};
+ghost use Rattle.ep_cs.specs.Fitting.{fit_bad};
+ghost use Rattle.ep_cs.specs.NormalRuns.{IsNormal};
 ghost use Rattle.ep_cs.specs.Plain.{plain};
 ghost use Rattle.ep_cs.specs.Splice.{splice};
 ghost use Rattle.ep_cs.specs.Follow.{follow, merge};
@@ -87,4 +90,15 @@ pub fn texts_stay_well_formed()
 /// A change that fits a document is told by what it does there.
 pub fn fitting_is_stamped()
     ensures { (c : Change) (doc : Doc) → Fits c doc → c ≡ stamped c.edit (text_of doc) }
+{}
+
+/// Edits that can be made of a document stay so: their composition, and what follows.
+pub fn fitting_edits_stay()
+    ensures composed { (a b : Edit) (doc : Doc) → fits a doc ≡ true → fits b (apply a doc) ≡ true → fits (compose a b) doc ≡ true }
+    ensures followed { (side : Bool) (a b : Edit) (doc : Doc) → fits a doc ≡ true → fits b doc ≡ true → fits (follow side a b) (apply a doc) ≡ true }
+{}
+
+/// A change is refused for no reason exactly where it fits.
+pub fn refused_where_it_does_not_fit()
+    ensures { (c : Change) (doc : Doc) → IsNormal c → (Fits c doc → fit_bad c doc ≡ None) × (fit_bad c doc ≡ None → Fits c doc) }
 {}

@@ -1,6 +1,7 @@
 use Rattle.std.proofs.Common.{◌∙◌, ap, sym}
-use Rattle.ep_apply.specs.Fitting.{answer}
-use Rattle.ep_apply.proofs.Refusals.{runs_are, answer_fits}
+use Rattle.ep_cs.specs.Fitting.{answer}
+use Rattle.ep_cs.proofs.Refusals.{answer_fits}
+use Rattle.ep_apply.proofs.Refusals.{runs_are}
 use Rattle.ep_apply.proofs.fitting.fits.Goals as goal
 
 pub returns-clause-exact : goal.returns-clause-exact

@@ -1,6 +1,7 @@
 use Rattle.std.proofs.Common.{◌≡◌, ◌≤◌, ◌+◌, drop, length}
 use Rattle.ep_cs.specs.Runs.{all_passed}
-use Rattle.ep_apply.specs.Fitting.{first_untrue, first_end, first_of}
+use Rattle.ep_cs.specs.Fitting.{first_untrue}
+use Rattle.ep_apply.specs.PairEnds.{first_end, first_of}
 use Rattle.ep_apply.proofs.fitting.follow_runs.Given as goal
 
 abbrev pub invariant-loop-i : goal.invariant-loop-i

@@ -1,7 +1,7 @@
 use Rattle.std.proofs.Common.{◌≤◌, ◌∙◌, List, length, ap, sym, arith}
 use Rattle.std.specs.Arc.{arc_value}
 use Rattle.ep_cs.specs.Doc.{Cell, text_of}
-use Rattle.ep_apply.specs.Fitting.{ends_high}
+use Rattle.ep_apply.specs.PairEnds.{ends_high}
 use Rattle.ep_apply.proofs.Blocks.{last_high, length_text}
 use Rattle.ep_apply.proofs.passing.Passing.ends_high.Goals as goal
 

@@ -1,5 +1,5 @@
 -- Why a change doesn't fit a document.
-use Rattle.std.specs.Prelude.{ℕ, ◌+◌, Bool, true, false, not, ◌&&◌, ◌||◌, ◌==◌, List, [], ◌∷◌, length, take, drop, if◌then◌else◌, Option, Some, None, Result, Ok, Err}
+use Rattle.std.specs.Prelude.{ℕ, ◌+◌, Bool, true, not, ◌&&◌, ◌||◌, ◌==◌, List, [], ◌∷◌, length, take, drop, if◌then◌else◌, Option, Some, None, Result, Ok, Err}
 use Rattle.ep_units.specs.Text.{Text, is_high}
 use Rattle.ep_cs.specs.Doc.{Doc, text_of}
 use Rattle.ep_cs.specs.Edit.{Place}
@@ -35,10 +35,12 @@ first_cut at [] us = None
 first_cut at (p ∷ ps) [] = None
 first_cut at (p ∷ ps) (u ∷ us) = if is_high u && not (goes_on p.fate ps) then Some (at + 1) else first_cut (at + 1) ps us
 
+-- a cut pair is refused by its place
 abbrev pub cuts : Option ℕ → Option FitBad
 cuts None = None
 cuts (Some at) = Some (CutsPair at)
 
+-- a run that says something false is told before a cut pair
 abbrev pub untrue_or : Option ℕ → Option FitBad → Option FitBad
 untrue_or None later = later
 untrue_or (Some i) later = Some (Newlines i)
@@ -50,31 +52,7 @@ fit_bad c doc =
     then untrue_or (first_untrue 0 c.runs (text_of doc)) (cuts (first_cut 0 c.edit.places (text_of doc)))
     else Some (OldLen (length doc) (length c.edit.places))
 
+-- refused for this reason, where there is one
 abbrev pub answer : Option FitBad → Result (Unit {0}) FitBad
 answer None = Ok tt
 answer (Some why) = Err why
-
--- ---- pairs by runs
-
-abbrev pub ends_high : Text → Bool
-ends_high [] = false
-ends_high (u ∷ []) = is_high u
-ends_high (u ∷ (v ∷ us)) = ends_high (v ∷ us)
-
--- the first pair that ends with a run
-abbrev pub first_end : ℕ → List Op → Text → Option ℕ
-first_end at [] us = if ends_high us then Some (at + length us) else None
-first_end at (o ∷ os) us =
-    if ends_high (take (passed o.kind o.units) us) then Some (at + passed o.kind o.units) else first_end (at + passed o.kind o.units) os (drop (passed o.kind o.units) us)
-
--- the first of two places, where one is there
-abbrev pub first_of : Option ℕ → Option ℕ → Option ℕ
-first_of None later = later
-first_of (Some at) later = Some at
-
-abbrev pub cut_at : Bool → ℕ → Option ℕ
-cut_at high at = if high then Some at else None
-
--- the first reason why runs don't fit a text
-abbrev pub runs_bad : List Op → Text → Option FitBad
-runs_bad os us = untrue_or (first_untrue 0 os us) (cuts (first_end 0 os us))
