@@ -17,6 +17,7 @@ ITEMS = [
     ("read a small edit, 1,000,000 units", "read", 1_000_000, 300_000, ["1MB/parse", "1MB/checkRep"], None),
     ("print a small edit, 10,000 units", "print", 10_000, 300_000, [], None),
     ("fill a pool of 100,000", "pool", 100_000, 1, [], None),
+    ("fill a pool of 100,000 that one hash can't tell apart", "pool-collide", 100_000, 1, [], None),
     ("fits, 10,000 units", "fits", 10_000, 100_000, [], None),
     ("fits, 1,000,000 units", "fits", 1_000_000, 2_000, [], None),
     ("apply, 10,000 units", "apply", 10_000, 200_000, ["10KB/one run/applyToAText"], "10KB/flat apply"),

@@ -1,6 +1,7 @@
 //! Runs one operation many times on generated data, to be measured from outside, and prints a checksum.
 #![tactic(auto)]
 
+mod colliding;
 mod data;
 mod draws;
 mod journal;
@@ -13,7 +14,7 @@ use std::env;
 use work::Work;
 
 const USAGE: &str =
-    "usage: ep_bench read|print|pool|fits|apply|apply-runs|compose|follow|rebase|slide UNITS COUNT";
+    "usage: ep_bench read|print|pool|pool-collide|fits|apply|apply-runs|compose|follow|rebase|slide UNITS COUNT";
 
 fn checksum(rt: &HostRuntime) -> Result<u64> {
     let mut words = env::args(rt)?.skip(1);

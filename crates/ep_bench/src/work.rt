@@ -4,6 +4,7 @@ ghost use Rattle.std.specs.Prelude.{IfOk};
 ghost use Rattle.std.specs.List.{All};
 ghost use Rattle.ep_cs.specs.Fits.{Fits};
 
+use crate::colliding::colliding;
 use crate::data::{AUTHORS, attribs, document, edit};
 use crate::draws::Draws;
 use crate::two::{compose_edits, follow_edits, rebase_edits};
@@ -35,6 +36,8 @@ pub enum Work {
     Print,
     /// A pool is filled with as many attributes as there are units.
     Pool,
+    /// A pool is filled with attributes that a hash with a fixed seed doesn't tell apart.
+    PoolCollide,
     /// Small edits are tried on a document with one attribute.
     Fits,
     /// Small edits are made to a document with one attribute.
@@ -57,6 +60,7 @@ impl Work {
             "read" => Some(Work::Read),
             "print" => Some(Work::Print),
             "pool" => Some(Work::Pool),
+            "pool-collide" => Some(Work::PoolCollide),
             "fits" => Some(Work::Fits),
             "apply" => Some(Work::Apply),
             "apply-runs" => Some(Work::ApplyRuns),
@@ -73,6 +77,7 @@ impl Work {
             Work::Read => read_edits(alloc, units, count),
             Work::Print => print_edits(alloc, units, count),
             Work::Pool => fill_pools(alloc, units, count),
+            Work::PoolCollide => fill_colliding(alloc, units, count),
             Work::Fits => try_edits(alloc, units, count),
             Work::Apply => apply_edits(alloc, units, units as usize, count),
             Work::ApplyRuns => apply_edits(alloc, units, RUN, count),
@@ -102,7 +107,7 @@ pub fn authors(alloc: Global, count: usize) -> Result<Pool> {
 }
 
 fn put(pool: &mut Pool, attr: Attr) -> Result<u32> {
-    if pool.len() == u32::MAX {
+    if !pool.can_number_more() {
         return Err(anyhow!("the pool is full"));
     }
     pool.reserve(1)?;
@@ -158,6 +163,18 @@ fn fill_pools(alloc: Global, units: u32, count: u32) -> Result<u64> {
         for i in 0..units {
             let value = format!(in alloc; "{i}")?;
             let number = put(&mut pool, attr(alloc, "author", &value)?)?;
+            sum = sum.wrapping_add(u64::from(number));
+        }
+    }
+    Ok(sum)
+}
+
+fn fill_colliding(alloc: Global, units: u32, count: u32) -> Result<u64> {
+    let mut sum: u64 = 0;
+    for _ in 0..count {
+        let mut pool = Pool::new(alloc);
+        for i in 0..units {
+            let number = put(&mut pool, colliding(alloc, i)?)?;
             sum = sum.wrapping_add(u64::from(number));
         }
     }

@@ -3,14 +3,14 @@ use Rattle.std.proofs.Common.{◌≡◌, ℕ, zero, suc, ◌+◌, ◌*◌, ◌/�
 use Rattle.std.proofs.lemmas.Bool.Decides.{nat_tests}
 use Rattle.std.specs.List.{flat_map}
 use Rattle.std.proofs.lemmas.List.Concat.{flat_map-cons}
+use Rattle.std.proofs.lemmas.List.Sums.{fold_push}
 use Rattle.ep_units.specs.Text.{Text}
 use Rattle.ep_cs.specs.declared.op.Kind.{Kind}
 use Rattle.ep_cs.specs.declared.op.Kind.TheVariants as kinds
 use Rattle.ep_csread.specs.declared.written.Number.{Number}
-use Rattle.ep_units.specs.Base36.{digit, digits_in, write36, is_digit, digit_value}
+use Rattle.ep_units.specs.Base36.{digit, digits_in, write36, is_digit, digit_value, digits_of, behind, value36}
 use Rattle.ep_cs.specs.Spelling.{star_text, lines_text, kind_text}
-use Rattle.ep_csread.specs.Numbers.{digits_of, behind, value_from}
-use Rattle.ep_csread.specs.Syntax.{◌>>=◌, number_in, number_at, begins_star, star_at, stars_at, lines_at, kind_at, sign_at, unit_at, op_at, attrib_at, ops_at, attribs_at, is_some_text, parts_of, goes_on, Operation, Parts, with_first, many, no_lines}
+use Rattle.ep_csread.specs.Syntax.{◌>>=◌, number_in, number_at, begins_star, star_at, stars_at, lines_at, kind_at, sign_at, unit_at, op_at, attrib_at, ops_at, attribs_at, is_some_text, parts_of, goes_on, Operation, Parts, with_first, many, no_lines, too_large}
 use Rattle.ep_csread.specs.Spelling.{Numbered, said}
 use Rattle.ep_csread.proofs.Many.{many_more, many_none}
 use Rattle.ep_csread.proofs.Shorter.{star_shortens, op_shortens, attrib_shortens}
@@ -77,10 +77,6 @@ behind-all : (ds rest : Text) → AreDigits ds → Ends rest → behind (ds ++ r
 behind-all [] rest h k = behind-ends rest k
 behind-all (d ∷ ds) rest h k = ap (λ b. cond b (behind (ds ++ rest)) (d ∷ (ds ++ rest))) h.0 ∙ behind-all ds rest h.1 k
 
-value_from-append : (v : ℕ) (a b : Text) → value_from v (a ++ b) ≡ value_from (value_from v a) b
-value_from-append v [] b = refl
-value_from-append v (u ∷ a) b = value_from-append (min (v * 36 + digit_value u) 4294967296) a b
-
 digits_in-digits : (k n : ℕ) → AreDigits (digits_in k n)
 digits_in-digits zero n = tt
 digits_in-digits (suc k) n = go (nat_lt n 36) refl (digits_in-digits k (n / 36))
@@ -89,28 +85,27 @@ digits_in-digits (suc k) n = go (nat_lt n 36) refl (digits_in-digits k (n / 36))
     go true b h = let l : n < 36 = grind (arith, nat_tests) in (digit_is n l, tt)
     go false b h = are_digits-append (digits_in k (n / 36)) (digit (n % 36) ∷ []) h (digit_is (n % 36) (omega arith), tt)
 
-value_digits_in : (k n : ℕ) → n < k → n < 4294967296 → value_from 0 (digits_in k n) ≡ n
-value_digits_in zero n h s = absurd (omega arith)
-value_digits_in (suc k) n h s = go (nat_lt n 36) refl (λ l. value_digits_in k (n / 36) (omega arith) (omega arith))
+value_digits_in : (k n : ℕ) → n < k → value36 (digits_in k n) ≡ n
+value_digits_in zero n h = absurd (omega arith)
+value_digits_in (suc k) n h = go (nat_lt n 36) refl (λ (l : 36 ≤ n). value_digits_in k (n / 36) (omega arith))
   where
-    go : (b : Bool) → nat_lt n 36 ≡ b → (36 ≤ n → value_from 0 (digits_in k (n / 36)) ≡ n / 36) → value_from 0 (cond b (digit n ∷ []) (digits_in k (n / 36) ++ digit (n % 36) ∷ [])) ≡ n
+    go : (b : Bool) → nat_lt n 36 ≡ b → (36 ≤ n → value36 (digits_in k (n / 36)) ≡ n / 36) → value36 (cond b (digit n ∷ []) (digits_in k (n / 36) ++ digit (n % 36) ∷ [])) ≡ n
     go true b h =
         let l : n < 36 = grind (arith, nat_tests) in
         let d : digit_value (digit n) ≡ n = digit_value-digit n l in
-        omega arith
+        omega (arith, d)
     go false b h =
         let l : 36 ≤ n = grind (arith, nat_tests) in
         let d : digit_value (digit (n % 36)) ≡ n % 36 = digit_value-digit (n % 36) (omega arith) in
-        let e : value_from 0 (digits_in k (n / 36)) ≡ n / 36 = h l in
-        value_from-append 0 (digits_in k (n / 36)) (digit (n % 36) ∷ []) ∙ ap₂ (λ v d. min (v * 36 + d) 4294967296) e d ∙ omega arith
+        fold_push (λ (value u : ℕ). value * 36 + digit_value u) 0 (digits_in k (n / 36)) (digit (n % 36)) ∙ ap₂ (λ (v d : ℕ). v * 36 + d) (h l) d ∙ omega arith
 
 pub write36-digits : (n : ℕ) → AreDigits (write36 n)
 unfolding write36
 write36-digits n = digits_in-digits (suc n) n
 
-pub value-write36 : (n : ℕ) → n < 4294967296 → value_from 0 (write36 n) ≡ n
+pub value-write36 : (n : ℕ) → n < 4294967296 → min (value36 (write36 n)) too_large ≡ n
 unfolding write36
-value-write36 n s = value_digits_in (suc n) n (omega arith) s
+value-write36 n s = ap (λ (v : ℕ). min v too_large) (value_digits_in (suc n) n (omega arith)) ∙ omega arith
 
 nonempty : (k n : ℕ) → 0 < length (digits_in (suc k) n)
 nonempty k n = elim (nat_lt n 36) as (λ b. 0 < length (cond b (digit n ∷ []) (digits_in k (n / 36) ++ digit (n % 36) ∷ []))) [ true ↦ omega arith | false ↦ omega (arith, length-append (digits_in k (n / 36)) (digit (n % 36) ∷ [])) ]
@@ -125,7 +120,7 @@ done x = Ok x
 abbrev at : ℕ → Text → Number
 at v text = record { value = v; left = length text }
 
-number_in_is : (ds text : Text) → 0 < length ds → number_in ds text ≡ done (at (value_from 0 ds) text, behind text)
+number_in_is : (ds text : Text) → 0 < length ds → number_in ds text ≡ done (at (min (value36 ds) too_large) text, behind text)
 number_in_is [] text h = absurd (omega arith)
 number_in_is (d ∷ ds) text h = refl
 

@@ -15,12 +15,13 @@ use Rattle.ep_csread.specs.declared.bad.ReadBad.TheVariants as bad
 use Rattle.ep_csread.specs.Spelling.{said}
 use Rattle.ep_csread.specs.Syntax.{Operation, Parts, parts_of, attrib_at, attribs_at, is_some_text}
 use Rattle.ep_csread.specs.Grammar.{AreItems, sign}
-use Rattle.ep_csread.specs.Reading.{first_some, first_such, mapped, unless, is_big, op_numbers, all_numbers, map_from, map_for, all_resolved, holds_lines, is_lined, first_unlined, first_half, first_cut, dropped, all_dropped, is_difference, has_lengths, largest, missing_refused, bank_refused, lines_refused, pair_refused}
-use Rattle.ep_csread.specs.Answer.{attribs_read, syntax_read}
+use Rattle.ep_csread.specs.Reading.{first_some, first_such, mapped, unless, is_big, op_numbers, all_numbers, map_from, map_for, all_resolved, holds_lines, is_lined, first_unlined, first_half, dropped, all_dropped, is_difference, has_lengths, largest, missing_refused, bank_refused, lines_refused, pair_refused}
 use Rattle.ep_csread.specs.Built.{IsDressed, AreDressed, AreInserts}
 use Rattle.ep_csread.proofs.Cuts.{same_cut}
 use Rattle.ep_csread.proofs.Named.{small_first}
 use Rattle.ep_csread.proofs.Takes.{Takes, items_take, attrib_takes, attrib_inserts, text_takes, writing_of}
+use Rattle.ep_csread.specs.Before.{first_cut}
+use Rattle.ep_csread.specs.Views.{attribs_read, syntax_read}
 
 pub first_of_two : (a b : Bool) → (a && b) ≡ true → a ≡ true
 first_of_two true b e = refl

@@ -11,7 +11,9 @@ use Rattle.ep_cs.specs.declared.op.Kind.{Kind}
 use Rattle.ep_cs.specs.declared.op.Kind.TheVariants as kinds
 use Rattle.ep_cs.specs.declared.op.Op.{Op}
 use Rattle.ep_cs.specs.Runs.{cells, inserted, all_inserted, run_steps, steps_of}
-use Rattle.ep_csread.specs.Reading.{first_half, first_cut, cut_at, begins_low, is_before}
+use Rattle.ep_csread.specs.Reading.{first_half}
+use Rattle.ep_csread.specs.Before.{first_cut, cut_at, is_before}
+use Rattle.ep_units.specs.Halves.{begins_low}
 
 abbrev opt : Bool → AttrMap → Option AttrMap
 opt true m = Some m

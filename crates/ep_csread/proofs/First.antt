@@ -3,11 +3,12 @@ use Rattle.std.proofs.Common.{◌≡◌, ℕ, suc, ◌+◌, ◌-◌, ◌<◌, Bo
 use Rattle.std.specs.List.{flat_map}
 use Rattle.std.proofs.lemmas.List.{drop_more}
 use Rattle.std.proofs.lemmas.List.Concat.{flat_map-cons}
-use Rattle.ep_units.specs.Text.{Text, is_newline}
+use Rattle.ep_units.specs.Text.{Text, is_newline, ends_in_newline}
 use Rattle.ep_csread.specs.declared.written.Number.{Number}
 use Rattle.ep_csread.specs.declared.written.WrittenOp.{WrittenOp}
-use Rattle.ep_csread.specs.Syntax.{Operation, op_view, op_views}
-use Rattle.ep_csread.specs.Reading.{first_such, ends_in_newline}
+use Rattle.ep_csread.specs.Syntax.{Operation}
+use Rattle.ep_csread.specs.Reading.{first_such}
+use Rattle.ep_csread.specs.Views.{op_view, op_views}
 
 pub found_first : {A : Type 0} (test : A → Bool) (a b : List A) (x : A) → first_such test a ≡ Some x → first_such test (a ++ b) ≡ Some x
 found_first test [] b x e = absurd cc
@@ -40,10 +41,3 @@ pub walk_on : (test : Number → Bool) (numbers : Operation → List Number) (op
     → first_such test (flat_map numbers (op_views (drop i ops))) ≡ all → None ≡ first_such test (numbers (op_view o)) → first_such test (flat_map numbers (op_views (drop (i + 1) ops))) ≡ all
 walk_on test numbers ops i o all h e so_far none =
     sym (none_first test (numbers (op_view o)) (flat_map numbers (op_views (drop (i + 1) ops))) (sym none)) ∙ sym (ap (first_such test) (next_op numbers ops i o h e)) ∙ so_far
-
-pub last_unit : (us : Text) (d : ℕ) → 0 < length us → ends_in_newline us ≡ is_newline (get_or us (length us - 1) d)
-last_unit [] d h = absurd (omega arith)
-last_unit (u ∷ []) d h = refl
-last_unit (u ∷ (v ∷ us)) d h =
-    let k : suc (suc (length us)) - 1 ≡ suc (suc (length us) - 1) = omega arith in
-    last_unit (v ∷ us) d (omega arith) ∙ sym (ap (λ n. is_newline (get_or (u ∷ (v ∷ us)) n d)) k)

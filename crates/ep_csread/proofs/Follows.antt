@@ -1,20 +1,19 @@
 -- What is written so is read.
-use Rattle.std.proofs.Common.{◌≡◌, ℕ, ◌<◌, Bool, true, false, cond, List, [], ◌∷◌, ◌++◌, map, length, Result, refl, sym, ap, ap₂, subst, ◌∙◌, arith, inl, inr, append_assoc, append-nil, length-append}
+use Rattle.std.proofs.Common.{◌≡◌, ℕ, ◌<◌, Bool, true, false, cond, List, [], ◌∷◌, ◌++◌, map, length, min, Result, refl, sym, ap, ap₂, subst, ◌∙◌, arith, inl, inr, append_assoc, append-nil, length-append}
 use Rattle.std.specs.List.{list_all, AllByRecursion}
 use Rattle.ep_units.specs.Text.{Text}
-use Rattle.ep_units.specs.Base36.{is_digit}
+use Rattle.ep_units.specs.Base36.{is_digit, digits_of, behind, value36}
 use Rattle.ep_cs.specs.declared.op.Kind.{Kind}
 use Rattle.ep_cs.specs.declared.op.Kind.TheVariants as kinds
 use Rattle.ep_cs.specs.Spelling.{kind_text}
 use Rattle.ep_csread.specs.declared.written.Number.{Number}
-use Rattle.ep_csread.specs.Numbers.{digits_of, behind, value_from}
 use Rattle.ep_csread.specs.Spelling.{Numbered, said}
 use Rattle.ep_csread.specs.Reading.{values}
-use Rattle.ep_csread.specs.Syntax.{◌>>=◌, Operation, Parts, number_in, number_at, begins_star, goes_on, star_at, stars_at, lines_at, no_lines, kind_at, sign_at, unit_at, op_at, ops_at, attrib_at, attribs_at, is_some_text, parts_of, many, with_first}
+use Rattle.ep_csread.specs.Syntax.{◌>>=◌, Operation, Parts, number_in, number_at, begins_star, goes_on, star_at, stars_at, lines_at, no_lines, kind_at, sign_at, unit_at, op_at, ops_at, attrib_at, attribs_at, is_some_text, parts_of, many, with_first, too_large}
 use Rattle.ep_csread.specs.Grammar.{IsNumeral, AreItems, IsStar, IsLines, IsOp, Writing, sign, IsWritten}
 use Rattle.ep_csread.proofs.Many.{Shortens, many_more, many_none}
 use Rattle.ep_csread.proofs.Shorter.{star_shortens, op_shortens, attrib_shortens}
-use Rattle.ep_csread.proofs.Takes.{okay, value_is, writing_of}
+use Rattle.ep_csread.proofs.Takes.{okay, writing_of}
 use Rattle.ep_csread.proofs.Checked.{first_of_two, second_of_two}
 
 -- reading what stands before a rest gives this, seen by a view
@@ -48,9 +47,9 @@ number_follows n (u ∷ us) rest d b =
     let e = digits_end (u ∷ us) rest d.only b in
     let text : Text = (u ∷ us) ++ rest in
     record {
-      item = record { value = value_from 0 (u ∷ us); left = length text };
-      is = ap (λ (ds : Text). number_in ds text) e.0 ∙ ap (λ (r : Text). okay (record { value = value_from 0 (u ∷ us); left = length text }, r)) e.1;
-      seen = value_is (u ∷ us) ∙ sym d.value;
+      item = record { value = min (value36 (u ∷ us)) too_large; left = length text };
+      is = ap (λ (ds : Text). number_in ds text) e.0 ∙ ap (λ (r : Text). okay (record { value = min (value36 (u ∷ us)) too_large; left = length text }, r)) e.1;
+      seen = sym d.value;
     }
 
 -- ---- items

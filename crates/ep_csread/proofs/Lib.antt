@@ -19,3 +19,5 @@ pub mod Checked
 pub mod Follows
 pub mod Spelled
 pub mod Local
+pub mod Mended
+pub mod Begun

@@ -1,14 +1,13 @@
 -- Where reading stops is told by the units up to there alone.
 use Rattle.std.proofs.Common.{◌≡◌, ℕ, zero, suc, ◌+◌, ◌-◌, ◌<◌, Bool, true, false, cond, not, eqb, ◌||◌, Option, Some, None, List, [], ◌∷◌, ◌++◌, length, take, min, Result, Ok, Err, refl, sym, ap, ap₂, ◌∙◌, arith, append_assoc, length-append}
 use Rattle.ep_units.specs.Text.{Text}
-use Rattle.ep_units.specs.Base36.{is_digit}
+use Rattle.ep_units.specs.Base36.{is_digit, digits_of, behind}
 use Rattle.ep_attr.specs.AttrMap.{Pair}
 use Rattle.ep_cs.specs.declared.op.Kind.{Kind}
 use Rattle.ep_cs.specs.declared.op.Kind.TheVariants as kinds
 use Rattle.ep_csread.specs.declared.bad.ReadBad.{ReadBad}
 use Rattle.ep_csread.specs.declared.bad.ReadBad.TheVariants as bad
 use Rattle.ep_csread.specs.declared.written.Number.{Number}
-use Rattle.ep_csread.specs.Numbers.{digits_of, behind}
 use Rattle.ep_csread.specs.Syntax.{◌>>=◌, Operation, Parts, number_in, number_at, begins_with, begins_star, goes_on, star_at, stars_at, lines_at, kind_at, sign_at, unit_at, op_at, ops_at, parts_of, many, with_first}
 use Rattle.ep_csread.specs.Grammar.{Writing, IsWritten}
 use Rattle.ep_cs.specs.Runs.{all_inserted, steps_of}
@@ -20,13 +19,13 @@ use Rattle.ep_csread.proofs.Takes.{only_digits, split_digits}
 use Rattle.ep_csread.proofs.Follows.{begins_digit, digits_end, text_follows}
 use Rattle.std.specs.List.{list_all}
 
-abbrev Reader : Type 0
+abbrev pub Reader : Type 0
 Reader = Text → Result Text ℕ
 
-abbrev okay : Text → Result Text ℕ
+abbrev pub okay : Text → Result Text ℕ
 okay t = Ok t
 
-abbrev stop : ℕ → Result Text ℕ
+abbrev pub stop : ℕ → Result Text ℕ
 stop left = Err left
 
 -- ---- readers that stop at a unit, or leave a rest, whatever stands behind
@@ -62,7 +61,7 @@ behind_that f t (v ∷ front) unit rest l e =
       λ other. ap f (append_assoc k.front (v ∷ front) (unit ∷ other)) ∙ k.so (front ++ unit ∷ other),
     )
 
-abbrev then : Reader → Reader → Reader
+abbrev pub then : Reader → Reader → Reader
 then f g t = f t >>= g
 
 one_then : (f g : Reader) (t : Text) → IsLocalAt f t → ((s : Text) → f t ≡ okay s → IsLocalAt g s) → IsLocalAt (then f g) t
@@ -96,15 +95,15 @@ same_local f g e l t = record {
 
 -- ---- one unit
 
-abbrev head : (ℕ → Bool) → Reader
+abbrev pub head : (ℕ → Bool) → Reader
 head test [] = Err 0
 head test (u ∷ us) = cond (test u) (Ok us) (Err (suc (length us)))
 
-abbrev got : Text → Result Text ℕ → Text
+abbrev pub got : Text → Result Text ℕ → Text
 got d (Ok x) = x
 got d (Err f) = d
 
-abbrev left_of : ℕ → Result Text ℕ → ℕ
+abbrev pub left_of : ℕ → Result Text ℕ → ℕ
 left_of d (Ok x) = d
 left_of d (Err f) = f
 
@@ -131,7 +130,7 @@ head_local test (u ∷ us) = go (test u) refl
 
 -- ---- numbers
 
-behind_stops : (t : Text) → begins_digit (behind t) ≡ false
+pub behind_stops : (t : Text) → begins_digit (behind t) ≡ false
 behind_stops [] = refl
 behind_stops (u ∷ us) = go (is_digit u) refl (behind_stops us)
   where
@@ -155,11 +154,11 @@ behind_local t = record {
       };
 }
 
-abbrev rest_of : {A : Type 0} → Result (A × Text) ℕ → Result Text ℕ
+abbrev pub rest_of : {A : Type 0} → Result (A × Text) ℕ → Result Text ℕ
 rest_of (Ok x) = Ok x.1
 rest_of (Err f) = Err f
 
-abbrev number : Reader
+abbrev pub number : Reader
 number t = rest_of (number_at t)
 
 number_is : (t : Text) → then (head is_digit) (λ t. okay (behind t)) t ≡ rest_of (number_at t)
@@ -176,10 +175,10 @@ number_local = same_local (then (head is_digit) (λ t. okay (behind t))) number 
 -- ---- items
 
 module _ {A : Type 0} (more : Text → Bool) (item : Text → Result (A × Text) ℕ) where
-  abbrev one : Reader
+  abbrev pub one : Reader
   one t = rest_of (item t)
 
-  abbrev all : Reader
+  abbrev pub all : Reader
   all t = rest_of (many more item t)
 
   with_first_rest : (a : A) (r : Result (List A × Text) ℕ) → rest_of (with_first a r) ≡ rest_of r
@@ -187,7 +186,7 @@ module _ {A : Type 0} (more : Text → Bool) (item : Text → Result (A × Text)
   with_first_rest a (Err f) = refl
 
   -- what reading items does next
-  unfolded : Shortens more item → (t : Text) → all t ≡ cond (more t) (then one all t) (okay t)
+  pub unfolded : Shortens more item → (t : Text) → all t ≡ cond (more t) (then one all t) (okay t)
   unfolded s t = go (more t) refl (item t) refl
     where
       go : (b : Bool) → more t ≡ b → (r : Result (A × Text) ℕ) → item t ≡ r → rest_of (many more item t) ≡ cond b (rest_of (item t) >>= (λ u. rest_of (many more item u))) (okay t)
@@ -201,7 +200,7 @@ module _ {A : Type 0} (more : Text → Bool) (item : Text → Result (A × Text)
   abbrev ByHead : Type 0
   ByHead = (front : Text) (unit : ℕ) (rest other : Text) → more (front ++ unit ∷ rest) ≡ more (front ++ unit ∷ other)
 
-  shorter_one : Shortens more item → (t s : Text) → more t ≡ true → one t ≡ okay s → length s < length t
+  pub shorter_one : Shortens more item → (t s : Text) → more t ≡ true → one t ≡ okay s → length s < length t
   shorter_one h t s b e = go (item t) refl e
     where
       go : (r : Result (A × Text) ℕ) → item t ≡ r → rest_of r ≡ okay s → length s < length t
@@ -286,10 +285,10 @@ lines_local (u ∷ us) = go (eqb u 124) refl
           record { front = []; whole = is; so = λ other. ap (λ (v : ℕ). rest_of (lines_at (v ∷ other))) (sym first) ∙ at false other b ∙ ap (λ (v : ℕ). okay (v ∷ other)) first };
     }
 
-abbrev is_kind : ℕ → Bool
+abbrev pub is_kind : ℕ → Bool
 is_kind u = eqb u 61 || (eqb u 45 || eqb u 43)
 
-kind_is : (t : Text) → head is_kind t ≡ rest_of (kind_at t)
+pub kind_is : (t : Text) → head is_kind t ≡ rest_of (kind_at t)
 kind_is [] = refl
 kind_is (u ∷ us) = go (eqb u 61) (eqb u 45) (eqb u 43)
   where
@@ -303,10 +302,10 @@ kind_is (u ∷ us) = go (eqb u 61) (eqb u 45) (eqb u 43)
 kind_local : IsLocal (λ t. rest_of (kind_at t))
 kind_local = same_local (head is_kind) (λ t. rest_of (kind_at t)) kind_is (head_local is_kind)
 
-abbrev op_parts : Reader
+abbrev pub op_parts : Reader
 op_parts = then (then (then (λ t. rest_of (stars_at t)) (λ t. rest_of (lines_at t))) (λ t. rest_of (kind_at t))) number
 
-op_is : (t : Text) → op_parts t ≡ rest_of (op_at t)
+pub op_is : (t : Text) → op_parts t ≡ rest_of (op_at t)
 unfolding op_at
 op_is t = go (stars_at t)
   where
@@ -341,15 +340,14 @@ ops_local = many_local goes_on op_at op_shortens (λ front unit rest other. ap n
 
 -- ---- whole texts
 
-abbrev fault_of : {A : Type 0} → Result A ℕ → Option ℕ
+abbrev pub fault_of : {A : Type 0} → Result A ℕ → Option ℕ
 fault_of (Ok x) = None
 fault_of (Err f) = Some f
 
-is_sign : ℕ → Bool
+abbrev pub is_sign : ℕ → Bool
 is_sign u = eqb u 62 || eqb u 60
 
-sign_is : (t : Text) → head is_sign t ≡ rest_of (sign_at t)
-unfolding is_sign
+pub sign_is : (t : Text) → head is_sign t ≡ rest_of (sign_at t)
 sign_is [] = refl
 sign_is (u ∷ us) = go (eqb u 62) (eqb u 60)
   where
@@ -361,20 +359,20 @@ sign_is (u ∷ us) = go (eqb u 62) (eqb u 60)
 sign_local : IsLocal (λ t. rest_of (sign_at t))
 sign_local = same_local (head is_sign) (λ t. rest_of (sign_at t)) sign_is (head_local is_sign)
 
-unit_is : (c : ℕ) (t : Text) → head (λ u. eqb u c) t ≡ unit_at c t
+pub unit_is : (c : ℕ) (t : Text) → head (λ u. eqb u c) t ≡ unit_at c t
 unit_is c [] = refl
 unit_is c (u ∷ us) = refl
 
 unit_local : (c : ℕ) → IsLocal (unit_at c)
 unit_local c = same_local (head (λ u. eqb u c)) (unit_at c) (unit_is c) (head_local (λ u. eqb u c))
 
-abbrev sign : Reader
+abbrev pub sign : Reader
 sign t = rest_of (sign_at t)
 
-abbrev ops : Reader
+abbrev pub ops : Reader
 ops t = rest_of (ops_at t)
 
-abbrev text_parts : Reader
+abbrev pub text_parts : Reader
 text_parts = then (then (then (then (then (then (unit_at 90) (unit_at 58)) number) sign) number) ops) (unit_at 36)
 
 text_local : IsLocal text_parts
@@ -386,7 +384,7 @@ text_local =
     (both_local (then (unit_at 90) (unit_at 58)) number
     (both_local (unit_at 90) (unit_at 58) (unit_local 90) (unit_local 58)) number_local) sign_local) number_local) ops_local) (unit_local 36)
 
-text_fault : (t : Text) → fault_of (text_parts t) ≡ fault_of (parts_of t)
+pub text_fault : (t : Text) → fault_of (text_parts t) ≡ fault_of (parts_of t)
 unfolding parts_of
 text_fault t = by_z (unit_at 90 t)
   where
@@ -425,7 +423,7 @@ text_fault t = by_z (unit_at 90 t)
     by_z (Err f) = refl
     by_z (Ok z) = by_colon (unit_at 58 z)
 
-fault_is : (r : Result Text ℕ) (left : ℕ) → fault_of r ≡ Some left → r ≡ stop left
+pub fault_is : (r : Result Text ℕ) (left : ℕ) → fault_of r ≡ Some left → r ≡ stop left
 fault_is (Ok x) left e = absurd cc
 fault_is (Err f) left e = ap stop (ap (λ (o : Option ℕ). or_zero o) e)
   where
@@ -494,14 +492,20 @@ abbrev or_zero : Option ℕ → ℕ
 or_zero None = 0
 or_zero (Some n) = n
 
-pub syntax_stops : (pool : List Pair) (text other : Text) (at : ℕ) (w : Writing) → reading pool text ≡ Err (bad.Syntax at) → at < length text → IsWritten w (take (at + 1) text ++ other) → ⊥
-syntax_stops pool text other at w e before is = go (parts_of text) refl e
+-- a text that is refused so ends in its syntax there
+pub syntax_left : (pool : List Pair) (text : Text) (at : ℕ) → reading pool text ≡ Err (bad.Syntax at) → (left : ℕ) × (parts_of text ≡ Err left) × (at ≡ length text - left)
+syntax_left pool text at e = go (parts_of text) refl e
   where
-    go : (r : Result Parts ℕ) → parts_of text ≡ r → counted pool text r ≡ Err (bad.Syntax at) → ⊥
-    go (Err left) i e = stopped text other left at w i (ap or_zero (ap why_place (sym e))) before is
+    go : (r : Result Parts ℕ) → parts_of text ≡ r → counted pool text r ≡ Err (bad.Syntax at) → (left : ℕ) × (parts_of text ≡ Err left) × (at ≡ length text - left)
+    go (Err left) i e = (left, i, ap or_zero (ap why_place (sym e)))
     go (Ok p) i e =
         let bad : None ≡ Some at = sym (unless_other (first_some (refusals pool text p)) (change_of p.old.value (all_resolved pool p.ops) p.bank) (none_syntax pool text p)) ∙ ap why_place e in
         absurd cc
+
+pub syntax_stops : (pool : List Pair) (text other : Text) (at : ℕ) (w : Writing) → reading pool text ≡ Err (bad.Syntax at) → at < length text → IsWritten w (take (at + 1) text ++ other) → ⊥
+syntax_stops pool text other at w e before is =
+    let s = syntax_left pool text at e in
+    stopped text other s.0 at w s.1 s.2 before is
 
 -- a text that is refused so is no changeset text
 pub syntax_none : (pool : List Pair) (text : Text) (at : ℕ) (w : Writing) → reading pool text ≡ Err (bad.Syntax at) → IsWritten w text → ⊥

@@ -3,7 +3,8 @@ use Rattle.std.proofs.Common.{◌≡◌, ℕ, zero, suc, ◌<◌, ◌≤◌, Boo
 use Rattle.ep_units.specs.Text.{Text}
 use Rattle.ep_csread.specs.declared.fault.Fault.{Fault}
 use Rattle.ep_csread.specs.declared.fault.Fault.TheVariants as faults
-use Rattle.ep_csread.specs.Syntax.{◌>>=◌, Fails, many_in, many, with_first}
+use Rattle.ep_csread.specs.Syntax.{◌>>=◌, many_in, many, with_first}
+use Rattle.ep_csread.specs.Views.{Fails}
 
 -- what was read before, and what is still read
 abbrev pub with_front : {A : Type 0} → List A → Result (List A × Text) ℕ → Result (List A × Text) ℕ

@@ -6,11 +6,12 @@ use Rattle.std.proofs.lemmas.Bool.Decides.{nat_tests}
 use Rattle.std.specs.List.{flat_map}
 use Rattle.ep_attr.specs.AttrMap.{AttrMap, Pair, none, insert, with_pairs, of_pairs}
 use Rattle.ep_csread.specs.declared.written.WrittenOp.{WrittenOp}
-use Rattle.ep_csread.specs.Syntax.{Operation, op_view, op_views}
+use Rattle.ep_csread.specs.Syntax.{Operation}
 use Rattle.ep_csread.specs.Spelling.{said}
 use Rattle.ep_csread.proofs.First.{next_op}
 use Rattle.ep_csread.specs.declared.written.Number.{Number}
 use Rattle.ep_csread.specs.Reading.{first_such, is_big, op_numbers, all_resolved, resolved, map_from, pair_at, with_pair, values}
+use Rattle.ep_csread.specs.Views.{op_view, op_views}
 
 pub slice_get-pair_at : (ps : List Pair) (n : ℕ) → slice_get ps n ≡ pair_at ps n
 slice_get-pair_at [] n = refl

@@ -5,7 +5,7 @@ use Rattle.std.specs.List.{flat_map, list_all}
 use Rattle.std.specs.Ordering.{eq_by_cmp}
 use Rattle.std.specs.FinMap.Entries.{find}
 use Rattle.std.proofs.lemmas.List.Concat.{flat_map-cons}
-use Rattle.ep_units.specs.Text.{Text, is_newline, text_cmp}
+use Rattle.ep_units.specs.Text.{Text, is_newline, text_cmp, ends_in_newline}
 use Rattle.ep_attr.specs.AttrMap.{AttrMap, Pair, none, get, is_value}
 use Rattle.ep_attr.proofs.Maps.{exact_test}
 use Rattle.ep_attr.proofs.SameMap.{first_true, second_true}
@@ -23,7 +23,7 @@ use Rattle.ep_csread.specs.declared.bad.ReadBad.TheVariants as bad
 use Rattle.ep_csread.specs.declared.written.Number.{Number}
 use Rattle.ep_csread.specs.Syntax.{Operation, Parts}
 use Rattle.ep_csread.specs.Spelling.{Numbered, said, numbers_from, has_pairs}
-use Rattle.ep_csread.specs.Reading.{mapped, largest, first_such, first_some, op_numbers, all_numbers, all_stars, is_big, map_for, resolved, all_resolved, ends_in_newline, holds_lines, is_lined, first_unlined, first_half, is_difference, dropped, all_dropped, has_lengths, number_refused, bank_refused, lines_refused, pair_refused, unless, counted, reading, counted_attribs, reading_attribs}
+use Rattle.ep_csread.specs.Reading.{mapped, largest, first_such, first_some, op_numbers, all_numbers, all_stars, is_big, map_for, resolved, all_resolved, holds_lines, is_lined, first_unlined, first_half, is_difference, dropped, all_dropped, has_lengths, number_refused, bank_refused, lines_refused, pair_refused, unless, counted, reading, counted_attribs, reading_attribs}
 use Rattle.ep_csread.proofs.Again.{parts_again, attribs_again, AreSmall, IsSmall, AreSmallOps, AreInserts, spelled, ops_text as numbered_text}
 use Rattle.ep_csread.proofs.Maps.{Has, HasMap, numbered, resolved_again}
 

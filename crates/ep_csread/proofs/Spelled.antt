@@ -4,7 +4,7 @@ use Rattle.std.specs.List.{AllByRecursion, flat_map}
 use Rattle.std.proofs.lemmas.Bool.Decides.{nat_tests}
 use Rattle.std.proofs.lemmas.List.{map-append}
 use Rattle.std.proofs.lemmas.List.Concat.{flat_map-cons}
-use Rattle.ep_units.specs.Text.{Text}
+use Rattle.ep_units.specs.Text.{Text, ends_in_newline}
 use Rattle.ep_attr.specs.AttrMap.{Pair}
 use Rattle.ep_cs.specs.declared.op.Kind.{Kind}
 use Rattle.ep_cs.specs.declared.op.Kind.TheVariants as kinds
@@ -18,7 +18,7 @@ use Rattle.ep_csread.specs.declared.written.Number.{Number}
 use Rattle.ep_csread.specs.Spelling.{Numbered, said}
 use Rattle.ep_csread.specs.Syntax.{Operation, Parts, parts_of, attribs_at}
 use Rattle.ep_cs.specs.Lines.{count_lines}
-use Rattle.ep_csread.specs.Reading.{first_some, first_such, mapped, unless, is_big, is_missing, op_numbers, all_numbers, all_stars, values, resolved, all_resolved, ends_in_newline, holds_lines, is_lined, first_unlined, first_half, all_dropped, is_difference, has_lengths, largest, numbers_refused, number_refused, missing_refused, star_refused, bank_refused, lines_refused, length_refused, pair_refused, refusals, counted, reading, attribs_refusals, counted_attribs, reading_attribs}
+use Rattle.ep_csread.specs.Reading.{first_some, first_such, mapped, unless, is_big, is_missing, op_numbers, all_numbers, all_stars, values, resolved, all_resolved, holds_lines, is_lined, first_unlined, first_half, all_dropped, is_difference, has_lengths, largest, numbers_refused, number_refused, missing_refused, star_refused, bank_refused, lines_refused, length_refused, pair_refused, refusals, counted, reading, attribs_refusals, counted_attribs, reading_attribs}
 use Rattle.ep_csread.specs.Built.{AreInserts}
 use Rattle.ep_csread.specs.Grammar.{Writing, numbers_of_op, AreSmall, AreNamed, HoldLines, HasLines, HaveLines, Leads, AreRight, Spells, SpellsText}
 use Rattle.ep_csread.proofs.Building.{all_dropped_within}

@@ -3,15 +3,14 @@ use Rattle.std.proofs.Common.{◌≡◌, ℕ, zero, suc, ◌+◌, ◌*◌, Bool,
 use Rattle.std.specs.List.{list_all}
 use Rattle.std.proofs.lemmas.Bool.Decides.{nat_tests}
 use Rattle.ep_units.specs.Text.{Text}
-use Rattle.ep_units.specs.Base36.{is_digit, digit_value, value36}
+use Rattle.ep_units.specs.Base36.{is_digit, digit_value, value36, digits_of, behind}
 use Rattle.ep_cs.specs.declared.op.Kind.{Kind}
 use Rattle.ep_cs.specs.declared.op.Kind.TheVariants as kinds
 use Rattle.ep_cs.specs.Spelling.{kind_text}
 use Rattle.ep_csread.specs.declared.written.Number.{Number}
-use Rattle.ep_csread.specs.Numbers.{digits_of, behind, value_from}
 use Rattle.ep_csread.specs.Spelling.{said}
 use Rattle.ep_csread.specs.Reading.{values}
-use Rattle.ep_csread.specs.Syntax.{◌>>=◌, Operation, Parts, number_in, number_at, begins_with, begins_star, goes_on, star_at, stars_at, lines_at, kind_at, sign_at, unit_at, op_at, ops_at, attrib_at, attribs_at, is_some_text, parts_of, many, many_in, with_first}
+use Rattle.ep_csread.specs.Syntax.{◌>>=◌, Operation, Parts, number_in, number_at, begins_with, begins_star, goes_on, star_at, stars_at, lines_at, kind_at, sign_at, unit_at, op_at, ops_at, attrib_at, attribs_at, is_some_text, parts_of, many, many_in, with_first, too_large}
 use Rattle.ep_csread.specs.Grammar.{IsNumeral, AreItems, IsStar, IsLines, IsOp, Writing, sign, IsWritten}
 use Rattle.ep_csread.proofs.Shorter.{bind_ok}
 
@@ -51,17 +50,6 @@ only_digits (u ∷ us) = go (is_digit u) refl (only_digits us)
     go true b e = ap (λ (c : Bool). c && list_all is_digit (digits_of us)) b ∙ e
     go false b e = refl
 
-saturated : (v : ℕ) (ds : Text) → value_from (min v 4294967296) ds ≡ min (fold (λ (value u : ℕ). value * 36 + digit_value u) v ds) 4294967296
-saturated v [] = refl
-saturated v (d ∷ ds) =
-    ap (λ (n : ℕ). value_from n ds) (step v (digit_value d)) ∙ saturated (v * 36 + digit_value d) ds
-  where
-    step : (v k : ℕ) → min (min v 4294967296 * 36 + k) 4294967296 ≡ min (v * 36 + k) 4294967296
-    step v k = omega arith
-
-pub value_is : (ds : Text) → value_from 0 ds ≡ min (value36 ds) 4294967296
-value_is ds = saturated 0 ds
-
 abbrev IsValue : Number → Text → Type 0
 IsValue n us = IsNumeral n.value us
 
@@ -71,17 +59,17 @@ number_takes t x e = go (digits_of t) refl e
     go : (ds : Text) → digits_of t ≡ ds → number_in ds t ≡ Ok x → Takes IsValue t x
     go [] d e = absurd cc
     go (u ∷ us) d e =
-        let n : Number = record { value = value_from 0 (u ∷ us); left = length t } in
+        let n : Number = record { value = min (value36 (u ∷ us)) too_large; left = length t } in
         let is = given (n, behind t) x e in
         let rest : behind t ≡ x.1 = ap (λ (y : Number × Text). y.1) is in
-        let value : value_from 0 (u ∷ us) ≡ x.0.value = ap (λ (y : Number × Text). y.0.value) is in
+        let value : min (value36 (u ∷ us)) too_large ≡ x.0.value = ap (λ (y : Number × Text). y.0.value) is in
         record {
           front = u ∷ us;
           whole = split_digits t ∙ ap₂ (λ (a b : Text). a ++ b) d rest;
           is = record {
             some = omega arith;
             only = ap (list_all is_digit) (sym d) ∙ only_digits t;
-            value = sym value ∙ value_is (u ∷ us);
+            value = sym value;
           };
         }
 

@@ -8,8 +8,8 @@ use Rattle.ep_cs.specs.declared.op.Kind.{Kind}
 use Rattle.ep_cs.specs.declared.op.Kind.TheVariants as kinds
 use Rattle.ep_cs.specs.declared.op.Op.{Op}
 use Rattle.ep_cs.specs.Runs.{inserted, all_inserted}
-use Rattle.ep_csread.specs.Reading.{first_cut, cut_at, begins_low, is_before}
-use Rattle.ep_csread.specs.Before.{map_at, map_before, cuts, cuts_by, place_after, place_by}
+use Rattle.ep_csread.specs.Before.{map_at, map_before, cuts, cuts_by, place_after, place_by, first_cut, cut_at, is_before}
+use Rattle.ep_units.specs.Halves.{begins_low}
 
 pub map_at_is : (ops : List Op) (i : ℕ) (o : Op) → i < length ops → o ≡ get_or ops i o → map_at ops i ≡ Some o.attrs
 map_at_is [] i o h e = absurd (omega arith)

@@ -1,12 +1,30 @@
--- The map of the operation at a place.
-use Rattle.std.specs.Prelude.{ℕ, zero, suc, Bool, false, cond, not, ◌&&◌, nat_lt, ◌==◌, List, [], ◌∷◌, Option, Some, None}
+-- Working words of private contracts: halves at the border of two insertions, which is all that can be wrong where the whole text is well-formed.
+use Rattle.std.specs.Prelude.{ℕ, zero, suc, ◌+◌, ◌-◌, Bool, false, cond, not, ◌&&◌, nat_lt, ◌==◌, List, [], ◌∷◌, drop, Option, Some, None}
 use Rattle.ep_units.specs.Text.{Text}
 use Rattle.ep_cs.specs.declared.op.Kind.{Kind}
 use Rattle.ep_cs.specs.declared.op.Kind.TheVariants as kinds
-use Rattle.ep_csread.specs.Reading.{begins_low, is_before}
-use Rattle.ep_attr.specs.AttrMap.{AttrMap}
+use Rattle.ep_attr.specs.AttrMap.{AttrMap, same_map}
 use Rattle.ep_cs.specs.declared.op.Op.{Op}
+use Rattle.ep_units.specs.Halves.{begins_low}
 
+abbrev pub is_before : Option AttrMap → AttrMap → Bool
+is_before None m = false
+is_before (Some h) m = same_map h m
+
+-- at an insertion: what comes behind it, unless its first unit is a second half with another map before it, or none; a keep ends the gap
+abbrev pub cut_at : ℕ → Option AttrMap → Kind → ℕ → AttrMap → Text → Option ℕ → Option ℕ → Option ℕ → Option ℕ
+cut_at at before kinds.Insert zero m bank behind kept on = on
+cut_at at before kinds.Insert (suc n) m bank behind kept on = cond (begins_low bank && not (is_before before m)) (Some (at - 1)) behind
+cut_at at before kinds.Keep zero m bank behind kept on = on
+cut_at at before kinds.Keep (suc n) m bank behind kept on = kept
+cut_at at before kinds.Drop n m bank behind kept on = on
+
+-- the first bank unit, counted from `at`, whose pair is cut; `before` is the map of the insertion right before in this gap, if there is one
+abbrev pub first_cut : ℕ → Option AttrMap → List Op → Text → Option ℕ
+first_cut at before [] bank = None
+first_cut at before (o ∷ os) bank = cut_at at before o.kind o.units o.attrs bank (first_cut (at + o.units) (Some o.attrs) os (drop o.units bank)) (first_cut at None os bank) (first_cut at before os bank)
+
+-- the map of the operation at a place
 abbrev pub map_at : List Op → ℕ → Option AttrMap
 map_at [] i = None
 map_at (o ∷ os) zero = Some o.attrs

@@ -1,4 +1,4 @@
--- What operations say to a builder.
+-- Working words of private contracts: what operations say to a builder.
 use Rattle.std.specs.Prelude.{◌≡◌, ℕ, List, [], ◌∷◌}
 use Rattle.ep_units.specs.Text.{Text}
 use Rattle.ep_attr.specs.AttrMap.{AttrMap, none, after}

@@ -2,7 +2,7 @@
 use Rattle.std.specs.Prelude.{◌≡◌, ℕ, ◌+◌, ◌<◌, ◌≤◌, ◌⊎◌, Bool, true, false, List, [], ◌∷◌, ◌++◌, map, length, take, drop, min}
 use Rattle.std.specs.List.{AllByRecursion, flat_map, list_all}
 use Rattle.ep_units.specs.Text.{Text}
-use Rattle.ep_units.specs.Base36.{is_digit, value36}
+use Rattle.ep_units.specs.Base36.{is_digit, most_read, value36}
 use Rattle.ep_attr.specs.AttrMap.{Pair}
 use Rattle.ep_cs.specs.Fits.{AreDocuments}
 use Rattle.ep_cs.specs.declared.op.Kind.{Kind}
@@ -14,12 +14,13 @@ use Rattle.ep_cs.specs.Spelling.{kind_text}
 use Rattle.ep_csread.specs.Spelling.{Numbered}
 use Rattle.ep_cs.specs.Lines.{count_lines}
 use Rattle.ep_csread.specs.Reading.{all_dropped, resolved}
+use Rattle.ep_csread.specs.Syntax.{too_large}
 
--- digits that spell a number, zeros first where they like; 4,294,967,296 stands for all numbers that are larger
+-- digits that spell a number, zeros first where they like; one number stands for all that are too large
 pub record IsNumeral (n : ℕ) (digits : Text) : Type 0 where
   pub some : 0 < length digits
   pub only : list_all is_digit digits ≡ true
-  pub value : n ≡ min (value36 digits) 4294967296
+  pub value : n ≡ min (value36 digits) too_large
 
 -- items one behind the other, each written as it should be
 module _ {A : Type 0} (IsItem : A → Text → Type 0) where
@@ -68,12 +69,24 @@ pub record IsWritten (w : Writing) (text : Text) : Type 0 where
   pub is_difference : IsNumeral w.difference difference
   pub are_ops : AreItems IsOp w.ops ops
 
+-- some changeset text begins so
+abbrev pub BeginsSome : Text → Type 0
+BeginsSome front = (w : Writing) × (others : Text) × IsWritten w (front ++ others)
+
+-- where the syntax of a text ends: some changeset text begins with the units before the place, and none with those up to and with it;
+-- at the end of the text a unit is missing there
+pub record SyntaxEnds (text : Text) (at : ℕ) : Type 0 where
+  pub within : at ≤ length text
+  pub before : BeginsSome (take at text)
+  pub with : at < length text → BeginsSome (take (at + 1) text) → ⊥
+  pub none : (w : Writing) → IsWritten w text → ⊥
+
 abbrev pub numbers_of_op : Numbered → List ℕ
 numbers_of_op o = o.stars ++ (o.lines ∷ (o.units ∷ []))
 
 -- each number of a list is small enough, and each of others is one of the pool's
 abbrev pub AreSmall : List ℕ → Type 0
-AreSmall ns = AllByRecursion (λ n. n ≤ 4294967295) ns
+AreSmall ns = AllByRecursion (λ n. n ≤ most_read) ns
 
 abbrev pub AreNamed : List Pair → List Numbered → Type 0
 AreNamed pool os = AllByRecursion (λ n. n < length pool) (flat_map (λ (o : Numbered). o.stars) os)
@@ -102,7 +115,7 @@ pub record AreRight (old new : ℕ) (ops : List Op) (bank : Text) (c : Change) :
   pub lines : HaveLines ops bank
   pub passed : all_passed ops ≤ old
   pub lengths : new + all_dropped ops ≡ old + all_inserted ops
-  pub small : new ≤ 4294967295
+  pub small : new ≤ most_read
   pub change : c ≡ change_of old ops bank
   -- no pair is cut
   pub pieces : AreDocuments c.edit.places c.edit.last

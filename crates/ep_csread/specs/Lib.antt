@@ -1,4 +1,3 @@
-pub mod Numbers
 pub mod Syntax
 pub mod Spelling
 pub mod Reading
@@ -6,3 +5,4 @@ pub mod Answer
 pub mod Before
 pub mod Grammar
 pub mod Built
+pub mod Views

@@ -1,7 +1,8 @@
 -- What a text stands for with a pool, or why it is none.
 use Rattle.std.specs.Prelude.{ℕ, zero, suc, ◌+◌, ◌-◌, Bool, true, false, cond, not, ◌&&◌, ◌||◌, List, [], ◌∷◌, ◌++◌, map, length, take, drop, min, nat_lt, nat_le, ◌==◌, Option, Some, None, Result, Ok, Err, if◌then◌else◌}
 use Rattle.std.specs.List.{flat_map}
-use Rattle.ep_units.specs.Text.{Text, is_high, is_low, is_newline}
+use Rattle.ep_units.specs.Text.{Text, ends_in_newline, is_high, is_low}
+use Rattle.ep_units.specs.Base36.{most_read}
 use Rattle.ep_attr.specs.AttrMap.{AttrMap, Pair, none, insert, after, same_map}
 use Rattle.ep_cs.specs.Edit.{Step}
 use Rattle.ep_cs.specs.Edit.Step.{Insert, Pass}
@@ -42,7 +43,7 @@ abbrev pub all_stars : List Operation → List Number
 all_stars os = flat_map (λ (o : Operation). o.stars) os
 
 abbrev pub is_big : Number → Bool
-is_big n = nat_lt 4294967295 n.value
+is_big n = nat_lt most_read n.value
 
 abbrev pub is_missing : ℕ → Number → Bool
 is_missing count n = nat_le count n.value
@@ -78,11 +79,6 @@ abbrev pub all_resolved : List Pair → List Operation → List Op
 all_resolved pool os = map (resolved pool) (map said os)
 
 -- so many newlines, the last of them at the end where there are any
-abbrev pub ends_in_newline : Text → Bool
-ends_in_newline [] = false
-ends_in_newline (u ∷ []) = is_newline u
-ends_in_newline (u ∷ (v ∷ us)) = ends_in_newline (v ∷ us)
-
 abbrev pub holds_lines : ℕ → Text → Bool
 holds_lines l text = (count_lines text == l) && ((l == 0) || ends_in_newline text)
 
@@ -129,7 +125,7 @@ all_dropped (o ∷ os) = dropped o.kind o.units + all_dropped os
 abbrev pub has_lengths : ℕ → Bool → ℕ → List Op → Bool
 has_lengths old shrinks difference os =
     let new : ℕ = old - all_dropped os + all_inserted os in
-    nat_le (all_passed os) old && (is_difference shrinks difference old new && nat_le new 4294967295)
+    nat_le (all_passed os) old && (is_difference shrinks difference old new && nat_le new most_read)
 
 abbrev pub largest : ℕ
 largest = 18446744073709551615
@@ -180,7 +176,7 @@ reading pool text = counted pool text (parts_of text)
 abbrev pub attribs_refusals : List Pair → Text → Text → List Operation → List (Option ReadBad)
 attribs_refusals pool text attribs ops =
     let os : List Op = all_resolved pool ops in
-    numbers_refused attribs (flat_map op_numbers ops) ∷ (missing_refused pool ops ∷ (bank_refused os text ∷ (lines_refused os text ∷ (cond (nat_le (length text) 4294967295) None (Some bad.Length) ∷ (pair_refused os text ∷ [])))))
+    numbers_refused attribs (flat_map op_numbers ops) ∷ (missing_refused pool ops ∷ (bank_refused os text ∷ (lines_refused os text ∷ (cond (nat_le (length text) most_read) None (Some bad.Length) ∷ (pair_refused os text ∷ [])))))
 
 abbrev pub counted_attribs : List Pair → Text → Text → Result (List Operation × Text) ℕ → Result Change ReadBad
 counted_attribs pool text attribs (Err left) = Err (bad.Syntax (length attribs - left))
@@ -189,26 +185,3 @@ counted_attribs pool text attribs (Ok x) = unless (first_some (attribs_refusals 
 -- the change that inserts a text with these attributes, or the first reason why they are none of it
 abbrev pub reading_attribs : List Pair → Text → Text → Result Change ReadBad
 reading_attribs pool text attribs = counted_attribs pool text attribs (attribs_at attribs)
-
--- ---- halves at the border of two insertions, which is all that can be wrong where the whole text is well-formed
-
-abbrev pub begins_low : Text → Bool
-begins_low [] = false
-begins_low (u ∷ us) = is_low u
-
-abbrev pub is_before : Option AttrMap → AttrMap → Bool
-is_before None m = false
-is_before (Some h) m = same_map h m
-
--- at an insertion: what comes behind it, unless its first unit is a second half with another map before it, or none; a keep ends the gap
-abbrev pub cut_at : ℕ → Option AttrMap → Kind → ℕ → AttrMap → Text → Option ℕ → Option ℕ → Option ℕ → Option ℕ
-cut_at at before kinds.Insert zero m bank behind kept on = on
-cut_at at before kinds.Insert (suc n) m bank behind kept on = cond (begins_low bank && not (is_before before m)) (Some (at - 1)) behind
-cut_at at before kinds.Keep zero m bank behind kept on = on
-cut_at at before kinds.Keep (suc n) m bank behind kept on = kept
-cut_at at before kinds.Drop n m bank behind kept on = on
-
--- the first bank unit, counted from `at`, whose pair is cut; `before` is the map of the insertion right before in this gap, if there is one
-abbrev pub first_cut : ℕ → Option AttrMap → List Op → Text → Option ℕ
-first_cut at before [] bank = None
-first_cut at before (o ∷ os) bank = cut_at at before o.kind o.units o.attrs bank (first_cut (at + o.units) (Some o.attrs) os (drop o.units bank)) (first_cut at None os bank) (first_cut at before os bank)

@@ -1,14 +1,10 @@
 -- The syntax of changeset text, read from left to right. Where it can't go on, the answer is how many units are left.
-use Rattle.std.specs.Prelude.{◌≡◌, ℕ, zero, suc, Bool, true, false, cond, not, List, [], ◌∷◌, map, length, Result, Ok, Err, ◌==◌, if◌then◌else◌}
+use Rattle.std.specs.Prelude.{ℕ, zero, suc, Bool, true, false, cond, not, List, [], ◌∷◌, length, min, Result, Ok, Err, ◌==◌, if◌then◌else◌}
 use Rattle.ep_units.specs.Text.{Text}
+use Rattle.ep_units.specs.Base36.{digits_of, behind, value36}
 use Rattle.ep_cs.specs.declared.op.Kind.{Kind}
 use Rattle.ep_cs.specs.declared.op.Kind.TheVariants as kinds
-use Rattle.ep_csread.specs.declared.fault.Fault.{Fault}
-use Rattle.ep_csread.specs.declared.fault.Fault.TheVariants as faults
 use Rattle.ep_csread.specs.declared.written.Number.{Number}
-use Rattle.ep_csread.specs.declared.written.WrittenOp.{WrittenOp}
-use Rattle.ep_csread.specs.declared.written.Written.{Written}
-use Rattle.ep_csread.specs.Numbers.{digits_of, behind, value_from}
 
 -- an operation without where it lies in memory
 pub record Operation : Type 0 where
@@ -25,38 +21,24 @@ pub record Parts : Type 0 where
   pub ops : List Operation
   pub bank : Text
 
-abbrev pub op_view : WrittenOp → Operation
-op_view o = record { stars = o.stars.items; lines = o.lines; kind = o.kind; units = o.units }
-
-abbrev pub op_views : List WrittenOp → List Operation
-op_views os = map op_view os
-
-abbrev pub parts_view : Written → Parts
-parts_view w = record { old = w.old; shrinks = w.shrinks; difference = w.difference; ops = op_views w.ops.items; bank = w.bank.now }
-
 infixl 10 ◌>>=◌
 abbrev pub ◌>>=◌ : {A B : Type 0} → Result A ℕ → (A → Result B ℕ) → Result B ℕ
 (Ok x) >>= f = f x
 (Err e) >>= f = Err e
-
--- What a function returned, seen by view, is what reading gives, unless memory ran out.
-abbrev pub Fails : {Y : Type 0} → Fault → Result Y ℕ → Type 0
-Fails faults.Memory read = Unit {0}
-Fails (faults.Syntax left) read = read ≡ Err left
-
-abbrev pub Gives : {X Y : Type 0} → (X → Y) → Result X Fault → Result Y ℕ → Type 0
-Gives view (Ok x) read = read ≡ Ok (view x)
-Gives view (Err e) read = Fails e read
 
 -- this unit, and the rest behind it
 abbrev pub unit_at : ℕ → Text → Result Text ℕ
 unit_at c [] = Err 0
 unit_at c (u ∷ us) = if u == c then Ok us else Err (length (u ∷ us))
 
+-- what stands for all numbers that are too large to be read
+abbrev pub too_large : ℕ
+too_large = 4294967296
+
 -- one digit or more
 abbrev pub number_in : Text → Text → Result (Number × Text) ℕ
 number_in [] text = Err (length text)
-number_in (d ∷ ds) text = Ok (record { value = value_from 0 (d ∷ ds); left = length text }, behind text)
+number_in (d ∷ ds) text = Ok (record { value = min (value36 (d ∷ ds)) too_large; left = length text }, behind text)
 
 abbrev pub number_at : Text → Result (Number × Text) ℕ
 number_at text = number_in (digits_of text) text

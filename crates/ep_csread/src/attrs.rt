@@ -5,8 +5,8 @@ ghost use Rattle.ep_attr.specs.AttrMap.{none, of_pairs};
 ghost use Rattle.ep_attr.specs.Attrs.{pairs_of};
 ghost use Rattle.std.specs.List.{flat_map};
 ghost use Rattle.ep_csread.specs.Spelling.{said};
-ghost use Rattle.ep_csread.specs.Syntax.{op_view, op_views};
 ghost use Rattle.ep_csread.specs.Reading.{all_resolved, first_such, is_big, map_for, map_from, op_numbers, resolved, values};
+ghost use Rattle.ep_csread.specs.Views.{op_view, op_views};
 
 use crate::written::{Number, WrittenOp};
 use ep_attr::{Attr, AttrMap};

@@ -2,19 +2,20 @@
 
 ghost use Rattle.std.specs.Prelude.{◌≡◌, ◌≤◌, ◌+◌, ◌<◌, ◌^◌, length, IfOk, Option, None};
 ghost use Rattle.std.specs.List.{flat_map};
-ghost use Rattle.ep_csread.specs.Syntax.{op_view, op_views, parts_view};
 ghost use Rattle.ep_cs.specs.Runs.{all_inserted, all_passed};
-ghost use Rattle.ep_csread.specs.Reading.{first_such, is_big, is_missing, op_numbers, all_numbers, all_stars, ends_in_newline, holds_lines, is_lined, first_unlined, first_half, has_lengths, all_resolved};
+ghost use Rattle.ep_csread.specs.Reading.{first_such, is_big, is_missing, op_numbers, all_numbers, all_stars, holds_lines, is_lined, first_unlined, first_half, has_lengths, all_resolved};
+ghost use Rattle.ep_csread.specs.Views.{op_view, op_views, parts_view};
 
 use crate::written::{Number, Written, WrittenOp};
 use ep_cs::{Kind, Op, count_lines};
+use ep_units::{MOST_READ, ends_in_newline};
 
 /// The first of these that is too big.
 fn big_of(numbers: &[Number]) -> Option<Number>
     ensures { result ≡ first_such is_big numbers.now }
 {
     for number in numbers {
-        if number.value > 4_294_967_295 {
+        if number.value > MOST_READ {
             return Some(*number);
         }
     }
@@ -28,9 +29,9 @@ fn big_in(op: &WrittenOp) -> Option<Number>
     match big_of(&op.stars) {
         Some(star) => Some(star),
         None => {
-            if op.lines.value > 4_294_967_295 {
+            if op.lines.value > MOST_READ {
                 Some(op.lines)
-            } else if op.units.value > 4_294_967_295 {
+            } else if op.units.value > MOST_READ {
                 Some(op.units)
             } else {
                 None
@@ -56,9 +57,9 @@ pub fn first_big_of(ops: &[WrittenOp]) -> Option<Number>
 pub fn first_big(written: &Written<'_>) -> Option<Number>
     ensures { result ≡ first_such is_big (all_numbers (parts_view written.now)) }
 {
-    if written.old.value > 4_294_967_295 {
+    if written.old.value > MOST_READ {
         Some(written.old)
-    } else if written.difference.value > 4_294_967_295 {
+    } else if written.difference.value > MOST_READ {
         Some(written.difference)
     } else {
         first_big_of(&written.ops)
@@ -94,16 +95,6 @@ pub fn first_missing(count: u32, ops: &[WrittenOp]) -> Option<Number>
         }
     }
     None
-}
-
-fn ends_in_newline(text: &[u16]) -> bool
-    ensures { result ≡ ends_in_newline text.now }
-{
-    if text.is_empty() {
-        false
-    } else {
-        text[text.len() - 1] == 10
-    }
 }
 
 fn is_lined(op: &Op, text: &[u16]) -> bool

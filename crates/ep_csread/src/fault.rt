@@ -2,7 +2,7 @@
 
 ghost use Rattle.std.specs.Prelude.{◌≡◌};
 ghost use Rattle.ep_csread.specs.declared.fault.Fault.TheVariants.{Memory};
-ghost use Rattle.ep_csread.specs.Answer.{fault_at};
+ghost use Rattle.ep_csread.specs.Views.{fault_at};
 
 use crate::bad::ReadBad;
 use std::alloc::{AllocError, AllocFailed};

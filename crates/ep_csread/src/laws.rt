@@ -1,10 +1,10 @@
 //! The laws of reading, over the definitions that the calls cite.
 
-ghost use Rattle.std.specs.Prelude.{◌≡◌, ◌↔◌, ◌+◌, ◌<◌, ◌++◌, ℕ, List, Ok, Err, length, take};
+ghost use Rattle.std.specs.Prelude.{◌≡◌, ◌↔◌, ℕ, List, Ok, Err};
 ghost use Rattle.ep_units.specs.Text.{Text};
 ghost use Rattle.ep_attr.specs.AttrMap.{Pair};
 ghost use Rattle.ep_cs.specs.Change.{Change};
-ghost use Rattle.ep_csread.specs.Grammar.{IsWritten, Spells, SpellsText, Writing};
+ghost use Rattle.ep_csread.specs.Grammar.{Spells, SpellsText, SyntaxEnds};
 ghost use Rattle.ep_csread.specs.declared.bad.ReadBad.TheVariants.{Syntax};
 ghost use Rattle.ep_csread.specs.Reading.{reading, reading_attribs};
 
@@ -22,9 +22,8 @@ pub fn one_change_is_spelled()
         → SpellsText pool text attribs c → SpellsText pool text attribs d → c ≡ d }
 {}
 
-/// Where a text is refused by its syntax, it is none, and no text begins with its units up to and with the place.
+/// Where a text is refused by its syntax, some changeset text begins with the units before the place, and
+/// none with those up to and with it.
 pub fn syntax_ends_there()
-    ensures none { (pool : List Pair) (text : Text) (at : ℕ) (w : Writing) → reading pool text ≡ Err (Syntax at) → IsWritten w text → ⊥ }
-    ensures begins { (pool : List Pair) (text others : Text) (at : ℕ) (w : Writing) → reading pool text ≡ Err (Syntax at)
-        → at < length text → IsWritten w (take (at + 1) text ++ others) → ⊥ }
+    ensures { (pool : List Pair) (text : Text) (at : ℕ) → reading pool text ≡ Err (Syntax at) → SyntaxEnds text at }
 {}

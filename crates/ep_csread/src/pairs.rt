@@ -2,8 +2,8 @@
 
 ghost use Rattle.std.specs.Prelude.{◌≡◌, ◌≤◌, length, None, Option};
 ghost use Rattle.ep_cs.specs.Runs.{all_inserted};
-ghost use Rattle.ep_csread.specs.Reading.{first_cut, is_before, begins_low};
-ghost use Rattle.ep_csread.specs.Before.{map_before, cuts, place_after};
+ghost use Rattle.ep_csread.specs.Before.{map_before, cuts, place_after, first_cut, is_before};
+ghost use Rattle.ep_units.specs.Halves.{begins_low};
 
 use ep_attr::AttrMap;
 use ep_cs::{Kind, Op};

@@ -1,14 +1,17 @@
 //! The syntax of changeset text.
 
 ghost use Rattle.std.specs.Prelude.{◌≡◌, ◌≤◌, length, take, drop, Ok};
-ghost use Rattle.ep_units.specs.Base36.{is_digit};
-ghost use Rattle.ep_csread.specs.Numbers.{digits_of, behind, value_from};
-ghost use Rattle.ep_csread.specs.Syntax.{Gives, unit_at, number_at, star_at, stars_at, begins_star, lines_at, kind_at, op_at, ops_at, attrib_at, attribs_at, is_some_text, sign_at, parts_of, goes_on, op_view, op_views, parts_view};
+ghost use Rattle.ep_csread.specs.Syntax.{unit_at, number_at, star_at, stars_at, begins_star, lines_at, kind_at, op_at, ops_at, attrib_at, attribs_at, is_some_text, sign_at, parts_of, goes_on};
+ghost use Rattle.ep_csread.specs.Views.{Gives, op_view, op_views, parts_view};
 
 use crate::fault::Fault;
 use crate::written::{Number, Written, WrittenOp};
 use ep_cs::Kind;
+use ep_units::{MOST_READ, digits36};
 use std::alloc::Global;
+
+/// Stands for all numbers that are too large to be read.
+const TOO_LARGE: u64 = MOST_READ + 1;
 
 fn unit(wanted: u16, text: &[u16]) -> Result<&[u16], Fault>
     ensures { Gives (λ x. x.now) result (unit_at wanted text.now) }
@@ -48,49 +51,17 @@ fn kind(text: &[u16]) -> Result<(Kind, &[u16]), Fault>
     }
 }
 
-fn is_digit(unit: u16) -> bool
-    ensures { result ≡ is_digit unit }
-{
-    (48 <= unit && unit <= 57) || (97 <= unit && unit <= 122)
-}
-
-/// How many digits the text begins with.
-fn count_digits(text: &[u16]) -> usize
-    ensures within { result ≤ length text.now }
-    ensures digits { take result text.now ≡ digits_of text.now }
-    ensures behind { drop result text.now ≡ behind text.now }
-{
-    for i in 0..text.len() {
-        if !is_digit(text[i]) {
-            return i;
-        }
-    }
-    text.len()
-}
-
-/// The value of digits, 4,294,967,296 standing for all that are larger.
-fn value_of(digits: &[u16]) -> u64
-    ensures { result ≡ value_from 0 digits.now }
-{
-    let mut value: u64 = 0;
-    for digit in digits {
-        let zero = if *digit <= 57 { 48 } else { 87 };
-        value = (value * 36 + u64::from(digit.saturating_sub(zero))).min(4_294_967_296);
-    }
-    value
-}
-
+/// The number, `TOO_LARGE` standing for all that are larger.
 fn number(text: &[u16]) -> Result<(Number, &[u16]), Fault>
     ensures { Gives (λ x. (x.0, x.1.now)) result (number_at text.now) }
 {
-    let end = count_digits(text);
-    if end == 0 {
+    let digits = digits36(text);
+    if digits.len == 0 {
         return Err(Fault::Syntax(text.len()));
     }
-    let (digits, rest) = text.split_at(end);
-    let value = value_of(digits);
+    let value = digits.number.unwrap_or(TOO_LARGE);
     let left = text.len();
-    Ok((Number { value, left }, rest))
+    Ok((Number { value, left }, &text[digits.len..]))
 }
 
 fn begins_star(text: &[u16]) -> bool

@@ -1,15 +1,17 @@
 //! Reading changesets and attributed texts.
 
-ghost use Rattle.std.specs.Prelude.{◌≡◌, ◌+◌, ◌-◌, ◌≤◌, ◌<◌, ◌^◌, ◌∷◌, [], length, true, None, Ok, IfOk, IfErr};
+ghost use Rattle.std.specs.Prelude.{◌≡◌, ◌+◌, ◌-◌, ◌≤◌, ◌<◌, ◌^◌, ◌∷◌, [], length, true, None, Ok, ℕ, IfOk, IfErr, IsErrOf};
 ghost use Rattle.std.specs.List.{flat_map};
 ghost use Rattle.ep_units.specs.Text.{is_well_formed};
 ghost use Rattle.ep_cs.specs.Change.{change_of};
 ghost use Rattle.ep_cs.specs.NormalRuns.{AreLined};
 ghost use Rattle.ep_cs.specs.Runs.{all_inserted, all_passed};
 ghost use Rattle.ep_csread.specs.Built.{AreDressed, AreInserts};
-ghost use Rattle.ep_csread.specs.Syntax.{op_view, op_views, parts_view, parts_of, attribs_at};
+ghost use Rattle.ep_csread.specs.Syntax.{parts_of, attribs_at};
 ghost use Rattle.ep_csread.specs.Reading.{all_dropped, all_resolved, bank_refused, counted, counted_attribs, first_some, first_such, is_big, lines_refused, missing_refused, op_numbers, pair_refused, reading, reading_attribs, unless};
-ghost use Rattle.ep_csread.specs.Answer.{Answers, IsRefused, syntax_read, attribs_read};
+ghost use Rattle.ep_csread.specs.Grammar.{SyntaxEnds};
+ghost use Rattle.ep_csread.specs.Answer.{IsRefused};
+ghost use Rattle.ep_csread.specs.Views.{op_view, op_views, parts_view, Answers, syntax_read, attribs_read};
 
 use crate::attrs::resolved;
 use crate::bad::ReadBad;
@@ -22,7 +24,7 @@ use crate::totals::{Lengths, bank_bad};
 use crate::written::{Written, WrittenOp};
 use ep_cs::{Change, Op};
 use ep_pool::Pool;
-use ep_units::Units;
+use ep_units::{MOST_READ, Units};
 use std::alloc::Global;
 
 /// The parts of a text.
@@ -105,6 +107,9 @@ pub fn read(alloc: Global, text: &Units, pool: &Pool) -> Result<Change, ReadBad>
     requires { is_well_formed text.now ≡ true }
     ensures change { IfOk result (λ c. reading pool.now.pairs text.now ≡ Ok c) }
     ensures refused { IfErr result (λ why. IsRefused why (reading pool.now.pairs text.now)) }
+
+    // Some changeset text begins with the units before the place, and none with those up to and with it.
+    ensures syntax { (at : ℕ) → IsErrOf result (ReadBad.Syntax at) → SyntaxEnds text.now at }
 {
     let units = text.as_slice();
     let parts = parts(alloc, units)?;
@@ -127,7 +132,7 @@ fn counted_attribs(
         return Err(ReadBad::Number(attribs.len().saturating_sub(number.left) as u64));
     }
     let ops = spread(alloc, pool, ops, text)?;
-    if text.len() > 4_294_967_295 {
+    if text.len() as u64 > MOST_READ {
         return Err(ReadBad::Length);
     }
     whole(alloc, 0, ops, text)

@@ -7,6 +7,7 @@ ghost use Rattle.ep_csread.specs.Reading.{all_dropped, bank_refused, dropped, ha
 
 use crate::bad::ReadBad;
 use ep_cs::{Kind, Op};
+use ep_units::MOST_READ;
 
 /// Units of operations, where the greatest `u64` stands for all larger numbers.
 #[derive(Clone, Copy)]
@@ -71,8 +72,8 @@ pub struct Lengths {
 impl Lengths {
     /// Whether the operations pass no more than there is and make what is said.
     pub fn are_of(&self, ops: &[Op]) -> bool
-        requires old { self.now.old < 4294967296 }
-        requires difference { self.now.difference < 4294967296 }
+        requires old { self.now.old ≤ MOST_READ }
+        requires difference { self.now.difference ≤ MOST_READ }
         ensures { result ≡ has_lengths self.now.old self.now.shrinks self.now.difference ops.now }
     {
         let totals = Totals::of(ops);
@@ -85,6 +86,6 @@ impl Lengths {
         } else {
             new == self.old + self.difference
         };
-        is_said && new <= 4_294_967_295
+        is_said && new <= MOST_READ
     }
 }

@@ -27,7 +27,7 @@ fn put(alloc: Global, attr: &Attr, pool: &mut Pool) -> Result<(), NoMemory>
     ensures { OnOk result (pool.new.pairs ≡ put pool.old.pairs (pair_of attr.now)) }
 {
     if pool.find(attr).is_none() {
-        if pool.len() == u32::MAX {
+        if !pool.can_number_more() {
             return Err(NoMemory);
         }
         let key = attr.key.copy(alloc)?;

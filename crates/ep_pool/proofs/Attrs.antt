@@ -9,10 +9,6 @@ pub has-pairs_of : (attrs : List Attr) (a : Attr) → has (pairs_of attrs) (pair
 has-pairs_of [] a = refl
 has-pairs_of (b ∷ attrs) a = ap (λ t. same_attr a b || t) (has-pairs_of attrs a)
 
-pub number_of-pairs_of : (attrs : List Attr) (a : Attr) → number_of (pairs_of attrs) (pair_of a) ≡ position_or_len (same_attr a) attrs
-number_of-pairs_of [] a = refl
-number_of-pairs_of (b ∷ attrs) a = ap (λ n. cond (not (same_attr a b)) (1 + n) 0) (number_of-pairs_of attrs a)
-
 pub pairs_of-append : (xs ys : List Attr) → pairs_of (xs ++ ys) ≡ pairs_of xs ++ pairs_of ys
 pairs_of-append [] ys = refl
 pairs_of-append (x ∷ xs) ys = ap (λ ps. pair_of x ∷ ps) (pairs_of-append xs ys)
@@ -20,5 +16,3 @@ pairs_of-append (x ∷ xs) ys = ap (λ ps. pair_of x ∷ ps) (pairs_of-append xs
 pub length-pairs_of : (attrs : List Attr) → length (pairs_of attrs) ≡ length attrs
 length-pairs_of [] = refl
 length-pairs_of (a ∷ attrs) = ap suc (length-pairs_of attrs)
-
-pub ruleset by_attrs = (has-pairs_of, number_of-pairs_of, pairs_of-append, length-pairs_of)

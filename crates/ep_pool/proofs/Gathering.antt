@@ -1,5 +1,5 @@
 -- Pairs that are put into a pool in the order of their numbers.
-use Rattle.std.proofs.Common.{◌≡◌, ℕ, zero, suc, ◌+◌, ◌<◌, ◌≤◌, List, [], ◌∷◌, ◌++◌, Bool, true, false, true≢false, cond, ◌&&◌, ◌||◌, Result, Ok, Err, length, get_or, slice_get, Option, Some, refl, sym, ap, ◌∙◌, arith}
+use Rattle.std.proofs.Common.{◌≡◌, ℕ, zero, suc, ◌+◌, ◌<◌, ◌≤◌, List, [], ◌∷◌, ◌++◌, Bool, true, false, true≢false, cond, ◌&&◌, ◌||◌, length, get_or, slice_get, Option, Some, refl, sym, ap, ◌∙◌, arith}
 use Rattle.std.proofs.lemmas.List.Sums.{passes_at_first}
 use Rattle.std.proofs.lemmas.Map.Keys.{apart_from_distinct}
 use Rattle.std.proofs.lemmas.Option.{same_Some, slice_get-get_or}
@@ -7,8 +7,6 @@ use Rattle.std.specs.List.{IsDistinct}
 use Rattle.ep_attr.specs.AttrMap.{Pair}
 use Rattle.ep_attr.proofs.Maps.{exact_test}
 use Rattle.ep_attr.proofs.SameMap.{both_true, itself}
-use Rattle.ep_pool.specs.declared.from_json.PoolBad.{PoolBad}
-use Rattle.ep_pool.specs.declared.from_json.PoolBad.TheVariants.{Shape, Gap, Twice, NoMemory}
 use Rattle.ep_pool.specs.Pool.{has, number_of, put, same_pair}
 use Rattle.ep_pool.specs.Read.{IsLeast}
 
@@ -35,7 +33,7 @@ pub number_within : (ps : List Pair) (p : Pair) → has ps p ≡ true → number
 number_within [] p there = absurd (true≢false (sym there))
 number_within (q ∷ qs) p there = within_at (same_pair p q) p q qs refl (number_within qs p) there
 
-absent : (ps : List Pair) (p : Pair) → length ps ≤ number_of ps p → has ps p ≡ false
+pub absent : (ps : List Pair) (p : Pair) → length ps ≤ number_of ps p → has ps p ≡ false
 absent ps p beyond = at (has ps p) refl
   where
     at : (b : Bool) → has ps p ≡ b → b ≡ false
@@ -75,16 +73,3 @@ twice_at E ps n r p len so_far distinct is number lower =
         let one : get_or ps x p ≡ get_or ps k p = same_Some _ _ (sym (slice_get-get_or ps x p within_x) ∙ (ex ∙ slice_get-get_or ps k p within)) in
         let apart = apart_from_distinct same_pair ps x k p distinct twice.1 within in
         true≢false (sym (same_pair_itself (get_or ps k p)) ∙ (ap (λ q. same_pair q (get_or ps k p)) (sym one) ∙ apart))
-
-abbrev number_in : {T : Type 0} → Result T PoolBad → ℕ
-number_in (Ok x) = 0
-number_in (Err (Shape m)) = 0
-number_in (Err (Gap n)) = n
-number_in (Err (Twice n)) = n
-number_in (Err NoMemory) = 0
-
-pub same_twice : {T : Type 0} (m n : ℕ) → ◌≡◌ {A = Result T PoolBad} (Err (Twice m)) (Err (Twice n)) → m ≡ n
-same_twice m n is = ap number_in is
-
-pub same_gap : {T : Type 0} (m n : ℕ) → ◌≡◌ {A = Result T PoolBad} (Err (Gap m)) (Err (Gap n)) → m ≡ n
-same_gap m n is = ap number_in is

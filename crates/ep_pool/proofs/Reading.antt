@@ -9,9 +9,10 @@ use Rattle.serde_json.specs.Find.{get, get_member, as_object}
 use Rattle.serde_json.specs.View.{view, members_view}
 use Rattle.std.proofs.lemmas.Bool.{cases_lt}
 use Rattle.serde_json.proofs.Views.{Entry, member_here}
-use Rattle.ep_pool.specs.Read.{AreEntries, IsLeast, entry_in, is_before, pair_read}
+use Rattle.ep_pool.specs.Read.{AreEntries, IsLeast, entry_in, most_number, pair_read}
+use Rattle.ep_pool.specs.Searching.{is_before}
 
-pub same_number : (key : List ℕ) (n k : ℕ) → n < 2 ^ 32 → k < 2 ^ 32 → key ≡ decimal n → key ≡ decimal k → n ≡ k
+pub same_number : (key : List ℕ) (n k : ℕ) → n ≤ most_number → k ≤ most_number → key ≡ decimal n → key ≡ decimal k → n ≡ k
 same_number key n k small_n small_k is_n is_k = decimal_injective n k (omega arith) (omega arith) (sym is_n ∙ is_k)
 
 pub get_in_object : (a : Data) (ms : Members) (q : List ℕ) → as_object a ≡ Some ms → get q a ≡ get_member q ms
@@ -45,14 +46,14 @@ member_behind q (e ∷ es) more there = some_at _ _ (view e.1) (member_behind q 
 
 -- where all below `next` are there, the least that is there beyond it is the first gap
 pub least_beyond : (a : Data) (ms : Members) (next : ℕ) (r : Option ℕ) → as_object a ≡ Some ms → AreEntries ms → ((k : ℕ) → k < next → IsSome (entry_in a k))
-    → IfSome r (λ n. (next ≤ n) × (n < 2 ^ 32) × IsSome (get_member (decimal n) ms))
-    → ((k : ℕ) → next ≤ k → k < 2 ^ 32 → is_before k r ≡ true → get_member (decimal k) ms ≡ None)
-    → IfSome r (IsLeast (λ n. nat_lt n next ≡ not (is_some (entry_in a n))))
+    → IfSome r (λ n. (next ≤ n) × (n ≤ most_number) × IsSome (get_member (decimal n) ms))
+    → ((k : ℕ) → next ≤ k → k ≤ most_number → is_before k r ≡ true → get_member (decimal k) ms ≡ None)
+    → IfSome r (IsLeast (λ n. (n ≤ most_number) × (nat_lt n next ≡ not (is_some (entry_in a n)))))
 least_beyond a ms next None is all below found rest = tt
 least_beyond a ms next (Some n) is all below found rest =
     let there : IsSome (entry_in a n) = rw (get_in_object a ms (decimal n) is) (entry_of_member ms (decimal n) all found.2) in
     let beyond : nat_lt n next ≡ false = grind (arith, found.0) in (
-      beyond ∙ sym (ap not there),
+      (found.1, beyond ∙ sym (ap not there)),
       least,
     )
   where
@@ -60,17 +61,17 @@ least_beyond a ms next (Some n) is all below found rest =
     gone k beyond lower =
         ap (λ o. is_some (option_and_then pair_read o)) (get_in_object a ms (decimal k) is ∙ rest k beyond (omega (arith, lower, found.1)) (grind (arith, lower)))
 
-    least : (k : ℕ) → k < n → nat_lt k next ≡ not (is_some (entry_in a k)) → ⊥
-    least k lower gap =
+    least : (k : ℕ) → k < n → ((k ≤ most_number) × (nat_lt k next ≡ not (is_some (entry_in a k)))) → ⊥
+    least k lower (small, gap) =
         elim (cases_lt k next) [ inl h ↦ (let e = below k h in grind (arith, h, e, gap)) | inr h ↦ (let e = gone k h lower in grind (arith, h, e, gap)) ]
 
 -- the least number so far is that of a member
 pub nearer_found : (all done left : List Entry) (e : Entry) (key : List ℕ) (next : ℕ) (least r : Option ℕ) → all ≡ done ++ e ∷ left → key ≡ string_bytes e.0
-    → IfSome least (λ m. (next ≤ m) × (m < 2 ^ 32) × IsSome (get_member (decimal m) (members_view all)))
-    → IfSome r (λ m. (least ≡ Some m) ⊎ ((next ≤ m) × (m < 2 ^ 32) × (key ≡ decimal m)))
-    → IfSome r (λ m. (next ≤ m) × (m < 2 ^ 32) × IsSome (get_member (decimal m) (members_view all)))
+    → IfSome least (λ m. (next ≤ m) × (m ≤ most_number) × IsSome (get_member (decimal m) (members_view all)))
+    → IfSome r (λ m. (least ≡ Some m) ⊎ ((next ≤ m) × (m ≤ most_number) × (key ≡ decimal m)))
+    → IfSome r (λ m. (next ≤ m) × (m ≤ most_number) × IsSome (get_member (decimal m) (members_view all)))
 nearer_found all done left e key next least None walked named before found = tt
-nearer_found all done left e key next least (Some m) walked named before (inl is) = subst (λ o. IfSome o (λ m. (next ≤ m) × (m < 2 ^ 32) × IsSome (get_member (decimal m) (members_view all)))) is before
+nearer_found all done left e key next least (Some m) walked named before (inl is) = subst (λ o. IfSome o (λ m. (next ≤ m) × (m ≤ most_number) × IsSome (get_member (decimal m) (members_view all)))) is before
 nearer_found all done left e key next least (Some m) walked named before (inr h) = (
   h.0,
   h.1,

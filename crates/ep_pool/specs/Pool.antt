@@ -41,6 +41,10 @@ unfolding IsDistinct
 distinct_pairs [] h = tt
 distinct_pairs (a ∷ attrs) h = (apart_pairs a attrs h.0, distinct_pairs attrs h.1)
 
+-- how many pairs a pool has at most
+abbrev pub most_pairs : ℕ
+most_pairs = 4294967295
+
 -- distinct pairs, and how many more can be put without memory
 pub record Pool : Type 0 where
   pub pairs : List Pair

@@ -1,10 +1,11 @@
 //! Pools from JSON.
 
-ghost use Rattle.std.specs.Prelude.{IfErr, IsSomeAnd, ◌⊎◌, codes, is_some, nat_lt, not, true, ◌≡◌, ◌≤◌, ◌<◌, ◌^◌, ◌↔◌, ◌≢◌, ℕ, Some, None, option_map, IsSome, IsTrue, IfSome, IfOk, IsErrOf, decimal, length, slice_get};
+ghost use Rattle.std.specs.Prelude.{IfErr, IsSomeAnd, ◌⊎◌, codes, is_some, nat_lt, not, true, ◌≡◌, ◌≤◌, ◌<◌, ◌↔◌, ◌≢◌, ℕ, Some, None, option_map, IsSome, IsTrue, IfSome, IfOk, IsErrOf, decimal, length, slice_get};
 ghost use Rattle.serde_json.specs.Find.{as_object, get, get_member};
 ghost use Rattle.serde_json.specs.View.{members_view, view};
 ghost use Rattle.ep_units.specs.Utf8.{units_of};
-ghost use Rattle.ep_pool.specs.Read.{AreEntries, HasEntries, HasNoGap, HasShape, IsGap, IsLeast, IsPoolOf, IsTwice, entry_in, is_before, next_num, pair_read};
+ghost use Rattle.ep_pool.specs.Read.{AreEntries, AreTexts, HasEntries, IsBadAs, IsLeast, IsPoolOf, IsText, entry_in, most_number, next_num, pair_read};
+ghost use Rattle.ep_pool.specs.Searching.{is_before};
 ghost use Rattle.ep_pool.specs.Pool.{pair_of};
 
 use crate::pool::Pool;
@@ -32,10 +33,10 @@ pub enum PoolBad {
     Shape(PoolMember),
     /// The least number below `nextNum` without an attribute, or with one and not below.
     #[error("attribute {0} is missing, or there are fewer")]
-    Gap(u32),
+    Gap(u64),
     /// The least number whose attribute has a lower number too.
     #[error("attribute {0} has a lower number too")]
-    Twice(u32),
+    Twice(u64),
     #[error("out of memory")]
     NoMemory,
 }
@@ -51,25 +52,36 @@ impl From<NoMemory> for PoolBad {
     }
 }
 
-fn next_num(value: &Value) -> Option<u32>
-    ensures { result ≡ next_num (view value.now) }
+/// The greatest whole number that every JavaScript engine keeps exactly.
+const MOST_NUMBER: u64 = 9_007_199_254_740_991;
+
+fn next_num(value: &Value) -> Option<u64>
+    ensures number { result ≡ next_num (view value.now) }
+    ensures small { IfSome result (λ n. n ≤ most_number) }
 {
     let number = value.get("nextNum").and_then(Value::as_u64)?;
-    if number < 1 << 32 {
-        Some(number as u32)
+    if number <= MOST_NUMBER {
+        Some(number)
     } else {
         None
     }
 }
 
-fn number_of_key(key: &str) -> Option<u32>
-    ensures some { IfSome result (λ n. (n < 2 ^ 32) × (key.now ≡ decimal n)) }
-    ensures none { result ≡ None → (n : ℕ) → n < 2 ^ 32 → key.now ≢ decimal n }
+/// Whether the key is that number in its shortest form, and it is small enough.
+fn is_name_of(number: u64, key: &str) -> bool
+    ensures { IsTrue result ↔ ((number ≤ most_number) × (key.now ≡ decimal number)) }
 {
-    match key.parse::<u32>() {
+    let mut buffer = Buffer::new();
+    number <= MOST_NUMBER && buffer.format(number) == key
+}
+
+fn number_of_key(key: &str) -> Option<u64>
+    ensures some { IfSome result (λ n. (n ≤ most_number) × (key.now ≡ decimal n)) }
+    ensures none { result ≡ None → (n : ℕ) → n ≤ most_number → key.now ≢ decimal n }
+{
+    match key.parse::<u64>() {
         Ok(number) => {
-            let mut buffer = Buffer::new();
-            if buffer.format(number) == key {
+            if is_name_of(number, key) {
                 Some(number)
             } else {
                 None
@@ -102,14 +114,14 @@ fn are_entries(members: &Map<String, Value>) -> bool
     true
 }
 
-fn entry(attribs: &Value, n: u32) -> Option<(&str, &str)>
+fn entry(attribs: &Value, n: u64) -> Option<(&str, &str)>
     ensures { option_map (λ t. (units_of t.0.now, units_of t.1.now)) result ≡ entry_in (view attribs.now) n }
 {
     let mut buffer = Buffer::new();
     two_texts(attribs.get(buffer.format(n))?)
 }
 
-fn first_missing(attribs: &Value, next: u32) -> Option<u32>
+fn first_missing(attribs: &Value, next: u64) -> Option<u64>
     ensures some { IfSome result (λ n. (n < next) × (entry_in (view attribs.now) n ≡ None) × ((k : ℕ) → k < n → IsSome (entry_in (view attribs.now) k))) }
     ensures none { result ≡ None → (k : ℕ) → k < next → IsSome (entry_in (view attribs.now) k) }
 {
@@ -122,9 +134,9 @@ fn first_missing(attribs: &Value, next: u32) -> Option<u32>
 }
 
 // The lesser of a number found before and that of the key, where this isn't below `next`.
-fn nearer(least: Option<u32>, key: &str, next: u32) -> Option<u32>
-    ensures found { IfSome result (λ m. (least ≡ Some m) ⊎ ((next ≤ m) × (m < 2 ^ 32) × (key.now ≡ decimal m))) }
-    ensures passed { (k : ℕ) → next ≤ k → k < 2 ^ 32 → is_before k result ≡ true → (is_before k least ≡ true) × (key.now ≢ decimal k) }
+fn nearer(least: Option<u64>, key: &str, next: u64) -> Option<u64>
+    ensures found { IfSome result (λ m. (least ≡ Some m) ⊎ ((next ≤ m) × (m ≤ most_number) × (key.now ≡ decimal m))) }
+    ensures passed { (k : ℕ) → next ≤ k → k ≤ most_number → is_before k result ≡ true → (is_before k least ≡ true) × (key.now ≢ decimal k) }
 {
     match number_of_key(key) {
         Some(n) if next <= n => match least {
@@ -135,9 +147,9 @@ fn nearer(least: Option<u32>, key: &str, next: u32) -> Option<u32>
     }
 }
 
-fn first_beyond(members: &Map<String, Value>, next: u32) -> Option<u32>
-    ensures some { IfSome result (λ n. (next ≤ n) × (n < 2 ^ 32) × IsSome (get_member (decimal n) (members_view members.now.entries))) }
-    ensures rest { (k : ℕ) → next ≤ k → k < 2 ^ 32 → is_before k result ≡ true → get_member (decimal k) (members_view members.now.entries) ≡ None }
+fn first_beyond(members: &Map<String, Value>, next: u64) -> Option<u64>
+    ensures some { IfSome result (λ n. (next ≤ n) × (n ≤ most_number) × IsSome (get_member (decimal n) (members_view members.now.entries))) }
+    ensures rest { (k : ℕ) → next ≤ k → k ≤ most_number → is_before k result ≡ true → get_member (decimal k) (members_view members.now.entries) ≡ None }
 {
     let mut least = None;
     for (key, _value) in members.iter() {
@@ -146,10 +158,11 @@ fn first_beyond(members: &Map<String, Value>, next: u32) -> Option<u32>
     least
 }
 
-fn first_gap(attribs: &Value, next: u32) -> Option<u32>
-    requires { IsSomeAnd (as_object (view attribs.now)) AreEntries }
-    ensures some { IfSome result (IsLeast (λ n. nat_lt n next ≡ not (is_some (entry_in (view attribs.now) n)))) }
-    ensures none { result ≡ None → (n : ℕ) → n < 2 ^ 32 → nat_lt n next ≡ is_some (entry_in (view attribs.now) n) }
+fn first_gap(attribs: &Value, next: u64) -> Option<u64>
+    requires small { next ≤ most_number }
+    requires all { IsSomeAnd (as_object (view attribs.now)) AreEntries }
+    ensures some { IfSome result (IsLeast (λ n. (n ≤ most_number) × (nat_lt n next ≡ not (is_some (entry_in (view attribs.now) n))))) }
+    ensures none { result ≡ None → (n : ℕ) → n ≤ most_number → nat_lt n next ≡ is_some (entry_in (view attribs.now) n) }
 {
     match first_missing(attribs, next) {
         Some(n) => Some(n),
@@ -170,7 +183,8 @@ fn attribs_of(value: &Value) -> Option<&Value>
 }
 
 fn attr_of(alloc: Global, key: &str, value: &str) -> Result<Attr, NoMemory>
-    ensures { IfOk result (λ a. pair_of a ≡ (units_of key.now, units_of value.now)) }
+    ensures pair { IfOk result (λ a. pair_of a ≡ (units_of key.now, units_of value.now)) }
+    ensures texts { IfOk result (λ a. IsText a.key × IsText a.value) }
 {
     Ok(Attr {
         key: Units::from_str(alloc, key)?,
@@ -178,19 +192,25 @@ fn attr_of(alloc: Global, key: &str, value: &str) -> Result<Attr, NoMemory>
     })
 }
 
-fn gather(alloc: Global, attribs: &Value, next: u32) -> Result<Pool, PoolBad>
+/// The pool of the entries below `next`. One that can number no more answers as for want of memory.
+fn gather(alloc: Global, attribs: &Value, next: u64) -> Result<Pool, PoolBad>
     requires { (k : ℕ) → k < next → IsSome (entry_in (view attribs.now) k) }
     ensures len { IfOk result (λ p. length p.pairs ≡ next) }
     ensures entries { IfOk result (λ p. (k : ℕ) → k < next → entry_in (view attribs.now) k ≡ slice_get p.pairs k) }
-    ensures twice { (n : ℕ) → IsErrOf result (PoolBad.Twice n) → (n < next) × IsLeast (λ m. (k : ℕ) × (k < m) × (entry_in (view attribs.now) k ≡ entry_in (view attribs.now) m)) n }
-    ensures causes { IfErr result (λ e. (e ≡ PoolBad.NoMemory) ⊎ ((n : ℕ) × (e ≡ PoolBad.Twice n))) }
+    ensures texts { IfOk result (λ p. AreTexts p.pairs) }
+    ensures bad { IfErr result (λ e. (e ≡ PoolBad.NoMemory) ⊎ ((n : ℕ) × (e ≡ PoolBad.Twice n) × (n < next)
+        × IsLeast (λ m. (k : ℕ) × (k < m) × (entry_in (view attribs.now) k ≡ entry_in (view attribs.now) m)) n)) }
 {
+    let Ok(count) = u32::try_from(next) else {
+        return Err(PoolBad::NoMemory);
+    };
     let mut pool = Pool::new(alloc);
-    pool.reserve(next)?;
-    for n in 0..next {
-        let (key, value) = entry(attribs, n).unwrap();
+    pool.reserve(count)?;
+    for n in 0..count {
+        let number = u64::from(n);
+        let (key, value) = entry(attribs, number).unwrap();
         if pool.put(attr_of(alloc, key, value)?) < n {
-            return Err(PoolBad::Twice(n));
+            return Err(PoolBad::Twice(number));
         }
     }
     Ok(pool)
@@ -200,10 +220,8 @@ impl Pool {
     /// Other members of the value are ignored.
     pub fn from_json(alloc: Global, value: &Value) -> Result<Pool, PoolBad>
         ensures pool { IfOk result (λ p. IsPoolOf (view value.now) p.pairs) }
-        ensures next_num { IsErrOf result (PoolBad.Shape PoolMember.NextNum) → next_num (view value.now) ≡ None }
-        ensures num_to_attrib { IsErrOf result (PoolBad.Shape PoolMember.NumToAttrib) → IsSome (next_num (view value.now)) × (HasEntries (view value.now) → ⊥) }
-        ensures gap { (n : ℕ) → IsErrOf result (PoolBad.Gap n) → HasShape (view value.now) × IsLeast (IsGap (view value.now)) n }
-        ensures twice { (n : ℕ) → IsErrOf result (PoolBad.Twice n) → HasShape (view value.now) × HasNoGap (view value.now) × IsLeast (IsTwice (view value.now)) n }
+        ensures texts { IfOk result (λ p. AreTexts p.pairs) }
+        ensures bad { IfErr result (λ e. (e ≡ PoolBad.NoMemory) ⊎ IsBadAs (view value.now) e) }
     {
         let Some(next) = next_num(value) else {
             return Err(PoolBad::Shape(PoolMember::NextNum));
@@ -256,7 +274,10 @@ mod tests {
         let num_to_attrib = PoolBad::Shape(PoolMember::NumToAttrib);
         let rows = [
             ("[]", next_num),
-            ("{\"nextNum\":4294967296,\"numToAttrib\":{}}", next_num),
+            (
+                "{\"nextNum\":9007199254740992,\"numToAttrib\":{}}",
+                next_num,
+            ),
             ("{\"nextNum\":-1,\"numToAttrib\":{}}", next_num),
             ("{\"nextNum\":0.5,\"numToAttrib\":{}}", next_num),
             (
@@ -286,8 +307,16 @@ mod tests {
                 PoolBad::Gap(1),
             ),
             (
-                "{\"nextNum\":4294967295,\"numToAttrib\":{\"0\":[\"a\",\"b\"]}}",
+                "{\"nextNum\":9007199254740991,\"numToAttrib\":{\"0\":[\"a\",\"b\"]}}",
                 PoolBad::Gap(1),
+            ),
+            (
+                "{\"nextNum\":0,\"numToAttrib\":{\"9007199254740991\":[\"a\",\"b\"]}}",
+                PoolBad::Gap(9007199254740991),
+            ),
+            (
+                "{\"nextNum\":0,\"numToAttrib\":{\"9007199254740992\":[\"a\",\"b\"]}}",
+                num_to_attrib,
             ),
             (
                 "{\"nextNum\":1,\"numToAttrib\":{\"0\":[\"a\",\"b\"],\"10\":[\"a\",\"b\"],\"9\":[\"a\",\"b\"]}}",

@@ -8,7 +8,8 @@ mod from_json;
 mod laws;
 mod pool;
 mod to_json;
+mod tree;
 
 pub use from_json::{PoolBad, PoolMember};
-pub use laws::json_is_read_back;
+pub use laws::{a_value_has_one_answer, json_is_read_back};
 pub use pool::Pool;

@@ -1,36 +1,46 @@
 //! The pool and its calls.
 
-ghost use Rattle.std.specs.Prelude.{◌≡◌, ◌+◌, ◌≤◌, ◌<◌, false, [], length, option_map, position, slice_get, IsOk, OnOk};
+ghost use Rattle.std.specs.Prelude.{◌≡◌, ◌+◌, ◌≤◌, ◌<◌, true, false, [], ◌∷◌, ◌++◌, length, option_map, position, slice_get, vec_capacity, vec_len, ◌↔◌, IsOk, IsTrue, OnOk};
 ghost use Rattle.std.specs.List.{IsDistinct};
 ghost use Rattle.std.proofs.Props.{props};
 ghost use Rattle.ep_attr.specs.Attrs.{pairs_of};
-ghost use Rattle.ep_pool.specs.Pool.{has, number_of, pair_of, put, same_attr, same_pair};
+ghost use Rattle.ep_pool.specs.Index.{AreWhole, are_within, is_rising};
+ghost use Rattle.ep_pool.specs.Pool.{has, most_pairs, number_of, pair_of, put, same_attr, same_pair};
 
+use crate::tree::{Fork, Tree, make_forks};
 use ep_attr::Attr;
 use ep_units::NoMemory;
-use indexmap::IndexSet;
 use std::alloc::Global;
 use std::marker::Model;
 
-/// Distinct attributes, fewer than 2^32, numbered from 0.
+/// How many attributes a pool has at most.
+const MOST_ATTRS: u32 = u32::MAX;
+
+/// Distinct attributes, numbered from 0.
 #[derive(Drop)]
 pub struct Pool {
-    attrs: IndexSet<Attr>,
-    ghost distinct: { IsDistinct same_attr attrs.keys } by { Prim.hlevel props },
-    ghost few: { length attrs.keys < 4294967296 },
+    attrs: Vec<Attr>,
+    numbers: Tree,
+    // as many as attributes can be put without memory
+    at_hand: Vec<Box<Fork>>,
+    ghost distinct: { IsDistinct same_attr attrs.items } by { Prim.hlevel props },
+    ghost few: { length attrs.items ≤ most_pairs },
+    ghost within: { are_within (length attrs.items) numbers ≡ true },
+    ghost rising: { is_rising (pairs_of attrs.items) numbers ≡ true },
+    ghost whole: { AreWhole (length attrs.items) numbers } by { Prim.hlevel props },
+    ghost room: { vec_len at_hand + vec_len attrs ≤ vec_capacity attrs },
 }
 
 impl Model for Pool {
-    ghost use Rattle.std.specs.Prelude.{◌≡◌};
+    ghost use Rattle.std.specs.Prelude.{◌≡◌, vec_len};
     ghost use Rattle.ep_attr.specs.Attrs.{pairs_of};
     ghost use Rattle.ep_pool.specs.Pool.{Pool as Pairs, coded_pool, distinct_pairs};
-    ghost use Rattle.indexmap.specs.IndexSet.{spare};
 
     ghost Value = { Pairs };
 
     ghost coded = { coded_pool };
 
-    ghost view = { λ p. record { pairs = pairs_of p.attrs.keys; spare = spare p.attrs; distinct = distinct_pairs p.attrs.keys p.distinct } };
+    ghost view = { λ p. record { pairs = pairs_of p.attrs.items; spare = vec_len p.at_hand; distinct = distinct_pairs p.attrs.items p.distinct } };
 }
 
 impl Pool {
@@ -39,7 +49,9 @@ impl Pool {
         ensures { result.pairs ≡ [] }
     {
         Pool {
-            attrs: IndexSet::new(alloc),
+            attrs: Vec::new(alloc),
+            numbers: Tree::new(),
+            at_hand: Vec::new(alloc),
         }
     }
 
@@ -50,39 +62,56 @@ impl Pool {
         ensures keeps_room { self.old.spare ≤ self.new.spare }
         ensures enough { n ≤ self.old.spare → IsOk result }
     {
-        self.attrs.reserve(n as usize)?;
+        let wanted = n as usize;
+        if self.at_hand.len() < wanted {
+            self.attrs.reserve(wanted)?;
+            let alloc = *self.attrs.allocator();
+            make_forks(alloc, wanted, &mut self.at_hand)?;
+        }
         Ok(())
     }
 
     /// The number of the attribute, which goes to the end where it isn't there.
-    #[tactic(auto, using(crate::proofs::Attrs::by_attrs))]
     pub fn put(&mut self, attr: Attr) -> u32
         requires room { has self.old.pairs (pair_of attr) ≡ false → 1 ≤ self.old.spare }
-        requires few { has self.old.pairs (pair_of attr) ≡ false → length self.old.pairs < 4294967295 }
+        requires few { has self.old.pairs (pair_of attr) ≡ false → length self.old.pairs < most_pairs }
         ensures number { result ≡ number_of self.old.pairs (pair_of attr) }
         ensures pairs { self.new.pairs ≡ put self.old.pairs (pair_of attr) }
         ensures spare { self.old.spare ≤ self.new.spare + 1 }
     {
-        let (index, _) = self.attrs.insert_full(attr).unwrap();
-        index as u32
+        match self.find(&attr) {
+            Some(number) => number,
+            None => self.append(attr),
+        }
+    }
+
+    fn append(&mut self, attr: Attr) -> u32
+        requires new { has self.old.pairs (pair_of attr) ≡ false }
+        requires room { 1 ≤ self.old.spare }
+        requires few { length self.old.pairs < most_pairs }
+        ensures number { result ≡ length self.old.pairs }
+        ensures pairs { self.new.pairs ≡ self.old.pairs ++ pair_of attr ∷ [] }
+        ensures spare { self.old.spare ≤ self.new.spare + 1 }
+    {
+        let number = self.attrs.len() as u32;
+        let fork = self.at_hand.pop().unwrap();
+        self.attrs.push(attr).unwrap();
+        self.numbers.insert(&self.attrs, number, fork);
+        number
     }
 
     /// The attribute with that number.
     pub fn get(&self, n: u32) -> Option<&Attr>
         ensures { option_map (λ a. pair_of a.now) result ≡ slice_get self.now.pairs n }
     {
-        self.attrs.get_index(n as usize)
+        self.attrs.get(n as usize)
     }
 
     /// The number of the attribute, where it is there.
-    #[tactic(auto, using(crate::proofs::Attrs::by_attrs))]
     pub fn find(&self, attr: &Attr) -> Option<u32>
         ensures { result ≡ position (same_pair (pair_of attr.now)) self.now.pairs }
     {
-        match self.attrs.get_index_of(attr) {
-            Some(place) => Some(place as u32),
-            None => None,
-        }
+        self.numbers.find(&self.attrs, attr)
     }
 
     /// The attributes in the order of their numbers.
@@ -90,6 +119,13 @@ impl Pool {
         ensures { pairs_of result.now ≡ self.now.pairs }
     {
         self.attrs.as_slice()
+    }
+
+    /// Whether it can number one more attribute.
+    pub fn can_number_more(&self) -> bool
+        ensures { IsTrue result ↔ (length self.now.pairs < most_pairs) }
+    {
+        self.len() < MOST_ATTRS
     }
 
     /// How many attributes there are.
@@ -125,6 +161,7 @@ mod tests {
         assert_eq!(rt; pool.find(&attr(alloc, "author", "a.x")?), Some(1));
         assert_eq!(rt; pool.find(&attr(alloc, "author", "true")?), None);
         assert_eq!(rt; pool.len(), 2);
+        assert!(rt; pool.can_number_more());
         assert!(rt; pool.get(2).is_none());
         assert!(rt;
             pool.get(1)

@@ -1,7 +1,7 @@
 use Rattle.std.proofs.Common.{◌≡◌, drop}
 use Rattle.std.specs.List.{flat_map}
-use Rattle.ep_csread.specs.Syntax.{op_views}
 use Rattle.ep_csread.specs.Reading.{first_such, is_big, op_numbers}
+use Rattle.ep_csread.specs.Views.{op_views}
 use Rattle.ep_csread.proofs.checks.first_big_of.Given as goal
 
 abbrev pub invariant-loop-op : goal.invariant-loop-op

@@ -1,6 +1,6 @@
 use Rattle.std.proofs.Common.{◌≡◌, drop}
-use Rattle.ep_csread.specs.Syntax.{op_views}
 use Rattle.ep_csread.specs.Reading.{first_such, is_missing, all_stars}
+use Rattle.ep_csread.specs.Views.{op_views}
 use Rattle.ep_csread.proofs.checks.first_missing.Given as goal
 
 abbrev pub invariant-loop-op : goal.invariant-loop-op

@@ -1,8 +1,7 @@
 use Rattle.std.proofs.Common.{◌∙◌, ◌+◌, ◌≤◌, drop, length, sym, ap, ap₂, subst, ℕ, List, Option}
 use Rattle.std.proofs.lemmas.List.{take_rest}
 use Rattle.ep_cs.specs.Runs.{all_inserted}
-use Rattle.ep_csread.specs.Reading.{first_cut}
-use Rattle.ep_csread.specs.Before.{map_before, cuts}
+use Rattle.ep_csread.specs.Before.{map_before, cuts, first_cut}
 use Rattle.ep_csread.proofs.Walking.{cut_step, room_step}
 use Rattle.ep_csread.proofs.pairs.first_cut.Goals as goal
 

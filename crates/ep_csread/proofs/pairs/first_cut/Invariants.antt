@@ -1,7 +1,6 @@
 use Rattle.std.proofs.Common.{◌≡◌, ◌≤◌, ◌+◌, drop, length, None}
 use Rattle.ep_cs.specs.Runs.{all_inserted}
-use Rattle.ep_csread.specs.Reading.{first_cut}
-use Rattle.ep_csread.specs.Before.{map_before}
+use Rattle.ep_csread.specs.Before.{map_before, first_cut}
 use Rattle.ep_csread.proofs.pairs.first_cut.Given as goal
 
 abbrev pub invariant-loop-i : goal.invariant-loop-i

@@ -1,8 +1,7 @@
 use Rattle.std.proofs.Common.{◌∙◌, Option, sym, ap}
 use Rattle.std.proofs.lemmas.Bool.{le-ltb}
 use Rattle.ep_attr.specs.AttrMap.{AttrMap, same_map}
-use Rattle.ep_csread.specs.Reading.{is_before}
-use Rattle.ep_csread.specs.Before.{map_before}
+use Rattle.ep_csread.specs.Before.{map_before, is_before}
 use Rattle.ep_csread.proofs.Walking.{map_at_is, map_at_past}
 use Rattle.ep_csread.proofs.pairs.is_before.Goals as goal
 

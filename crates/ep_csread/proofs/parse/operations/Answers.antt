@@ -1,9 +1,10 @@
 use Rattle.std.proofs.Common.{◌≡◌, ◌++◌, ◌∷◌, [], ◌∙◌, sym}
 use Rattle.std.proofs.lemmas.Result.{err_from_is_err_and}
 use Rattle.std.proofs.lemmas.List.{map_push}
-use Rattle.ep_csread.specs.Syntax.{op_at, ops_at, op_view, op_views, goes_on as more}
+use Rattle.ep_csread.specs.Syntax.{op_at, ops_at, goes_on as more}
 use Rattle.ep_csread.proofs.Many.{goes_on, ends, is_done}
 use Rattle.ep_csread.proofs.Shorter.{op_shortens}
+use Rattle.ep_csread.specs.Views.{op_view, op_views}
 use Rattle.ep_csread.proofs.parse.operations.Goals as goal
 
 pub returns-in_err-op : goal.returns-in_err-op

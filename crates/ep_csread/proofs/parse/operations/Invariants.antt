@@ -1,6 +1,7 @@
 use Rattle.std.proofs.Common.{◌≡◌, length}
-use Rattle.ep_csread.specs.Syntax.{ops_at, op_views}
+use Rattle.ep_csread.specs.Syntax.{ops_at}
 use Rattle.ep_csread.proofs.Many.{with_front}
+use Rattle.ep_csread.specs.Views.{op_views}
 use Rattle.ep_csread.proofs.parse.operations.Given as goal
 
 abbrev pub invariant-ops : goal.invariant-ops

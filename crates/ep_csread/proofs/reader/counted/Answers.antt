@@ -1,5 +1,5 @@
-use Rattle.ep_csread.specs.Syntax.{op_views}
 use Rattle.ep_csread.proofs.Checked.{spread_lined, spread_dressed}
+use Rattle.ep_csread.specs.Views.{op_views}
 use Rattle.ep_csread.proofs.reader.counted.Goals as goal
 
 pub whole-requires-clause-lined : goal.whole-requires-clause-lined

@@ -1,6 +1,6 @@
 use Rattle.std.proofs.Common.{arith}
-use Rattle.ep_csread.specs.Syntax.{op_views}
 use Rattle.ep_csread.proofs.Checked.{spread_lined, spread_dressed, spread_inserts}
+use Rattle.ep_csread.specs.Views.{op_views}
 use Rattle.ep_csread.proofs.reader.counted_attribs.Goals as goal
 
 pub whole-requires-clause-inside : goal.whole-requires-clause-inside

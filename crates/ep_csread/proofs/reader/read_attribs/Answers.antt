@@ -1,8 +1,9 @@
 use Rattle.std.proofs.Common.{List, sym, subst}
 use Rattle.ep_csread.specs.declared.written.WrittenOp.{WrittenOp}
-use Rattle.ep_csread.specs.Syntax.{op_views, attribs_at}
+use Rattle.ep_csread.specs.Syntax.{attribs_at}
 use Rattle.ep_csread.specs.Built.{AreInserts}
 use Rattle.ep_csread.proofs.Checked.{attribs_ok, attribs_insert}
+use Rattle.ep_csread.specs.Views.{op_views}
 use Rattle.ep_csread.proofs.reader.read_attribs.Goals as goal
 
 pub counted_attribs-requires-clause-inserts : goal.counted_attribs-requires-clause-inserts

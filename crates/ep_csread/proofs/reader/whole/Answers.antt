@@ -2,9 +2,9 @@ use Rattle.std.proofs.Common.{◌∙◌, ap, sym, List, None, Result, Ok}
 use Rattle.ep_cs.specs.Change.{Change, change_of}
 use Rattle.ep_cs.specs.declared.op.Op.{Op}
 use Rattle.ep_csread.specs.declared.bad.ReadBad.{ReadBad}
-use Rattle.ep_csread.specs.Reading.{first_cut}
 use Rattle.ep_csread.proofs.Checked.{cut_is, cut_found, cut_nowhere}
 use Rattle.ep_csread.proofs.Pieces.{are_pieces}
+use Rattle.ep_csread.specs.Before.{first_cut}
 use Rattle.ep_csread.proofs.reader.whole.Goals as goal
 
 abbrev okay : Change → Result Change ReadBad

@@ -9,5 +9,5 @@ pub returns-in_ok-as_object-in-None-clause-some : goal.returns-in_ok-as_object-i
 returns-in_ok-as_object-in-None-clause-some c =
     let ms = members_view c.in_ok-as_object-in-None.field-0.now.entries in
     let is : as_object (view c.args.attribs.now) ≡ Some ms = sym c.in_ok-as_object-in-None.ensures in
-    let all : AreEntries ms = subst (λ o. IsSomeAnd o AreEntries) is c.requires in
+    let all : AreEntries ms = subst (λ o. IsSomeAnd o AreEntries) is c.requires.all in
     least_beyond (view c.args.attribs.now) ms c.args.next c.first_beyond.result is all (c.in-None.ensures.none refl) c.first_beyond.ensures.some c.first_beyond.ensures.rest

@@ -1,6 +1,6 @@
 use Rattle.std.proofs.Common.{arith, ap, ◌∙◌}
 use Rattle.ep_pool.proofs.Reading.{same_number}
-use Rattle.ep_pool.specs.Read.{is_before}
+use Rattle.ep_pool.specs.Searching.{is_before}
 use Rattle.ep_pool.proofs.from_json.nearer.Goals as goal
 
 pub returns-in-Some-least-clause-passed : goal.returns-in-Some-least-clause-passed
