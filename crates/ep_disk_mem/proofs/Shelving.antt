@@ -16,7 +16,8 @@ use Rattle.ep_outside.proofs.Shelved.{rises_with}
 use Rattle.ep_outside.proofs.Rising.{and_left, and_right, and_both}
 use Rattle.ep_disk_mem.specs.declared.slots.Slot.{Slot}
 use Rattle.ep_disk_mem.specs.declared.mem_file.MemFile.{MemFile}
-use Rattle.ep_disk_mem.specs.Slots.{told_file, told_of, told_in, names_of, names_in, is_sure, all_sure, are_sure, put_in, slot_of}
+use Rattle.ep_disk_mem.specs.Files.{told_in, names_in, are_sure}
+use Rattle.ep_disk_mem.specs.Slots.{told_file, told_of, names_of, is_sure, all_sure, put_in, slot_of}
 
 tested : (a b : List ℕ) (o : Ordering) → text_cmp a b ≡ o → bytes_eq a b ≡ is_eq o
 tested a b o e = sym (is_eq-slice_cmp a b) ∙ ap is_eq e

@@ -1,4 +1,4 @@
--- What a disk in memory holds, and what it held.
+-- Working words of private contracts: what a disk in memory holds, and what it held.
 use Rattle.std.specs.Prelude.{ℕ, ◌+◌, ◌≤◌, ◌⊎◌, List, [], ◌∷◌, length, drop, vec_len, vec_capacity}
 use mathlib.Core.Logic.{inl, inr}
 use Rattle.std.specs.declared.snapshot.Snapshot.{Snapshot}

@@ -1,10 +1,8 @@
--- The names on a shelf in memory, with their files.
+-- Working words of private contracts: the names on a shelf in memory, with their files.
 use Rattle.std.specs.Prelude.{ℕ, Bool, true, ◌==◌, ◌&&◌, bytes_eq, if◌then◌else◌, List, [], ◌∷◌, length, Option, Some, None}
-use Rattle.std.specs.List.{list_all}
 use Rattle.ep_units.specs.Text.{text_cmp}
 use Rattle.ep_outside.specs.Disk.{Contents, settled}
 use Rattle.ep_outside.specs.Kept.{by_order}
-use Rattle.ep_outside.specs.Shelf.{with_name}
 use Rattle.ep_disk_mem.specs.declared.slots.Stored.{Stored}
 use Rattle.ep_disk_mem.specs.declared.slots.Slot.{Slot}
 use Rattle.ep_disk_mem.specs.declared.mem_file.MemFile.{MemFile}
@@ -39,17 +37,3 @@ put_in (s ∷ ss) slot = by_order (text_cmp slot.name s.name) (slot ∷ s ∷ ss
 
 abbrev pub slot_of : MemFile → Slot
 slot_of f = record { name = f.name; file = Some (record { bytes = f.bytes; fails = f.fails }) }
-
--- what is told of a name on a shelf with these files, of which the first of a name counts
-abbrev pub told_in : List MemFile → List ℕ → Option Contents
-told_in [] name = Some (settled [])
-told_in (f ∷ fs) name = if bytes_eq name f.name then Some (settled f.bytes.items) else told_in fs name
-
--- their names, by rising name
-abbrev pub names_in : List MemFile → List (List ℕ)
-names_in [] = []
-names_in (f ∷ fs) = with_name (names_in fs) f.name
-
--- no device call of their disks is to fail
-abbrev pub are_sure : List MemFile → Bool
-are_sure files = list_all (λ f. length f.fails.items == 0) files

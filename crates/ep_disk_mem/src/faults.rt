@@ -16,6 +16,7 @@ pub struct Faults {
 impl Faults {
     pub fn new(fails: Vec<u64>) -> Faults
         ensures fails { result.fails ≡ fails }
+        ensures made { result.made ≡ 0 }
         ensures none { result.failures ≡ 0 }
     {
         Faults {

@@ -19,6 +19,7 @@ mod ranges;
 mod slots;
 mod torn;
 
+pub use faults::Faults;
 pub use mem_clock::MemClock;
 pub use mem_disk::MemDisk;
 pub use mem_draws::MemDraws;

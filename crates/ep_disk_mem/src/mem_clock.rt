@@ -1,6 +1,6 @@
 //! A clock that shows moments of a list.
 
-ghost use Rattle.std.specs.Prelude.{◌≡◌, ◌<◌, length};
+ghost use Rattle.std.specs.Prelude.{◌≡◌, ◌<◌, ◌-◌, length, get_or, min, Contains};
 
 use ep_outside::Clock;
 use std::sync::atomic::{AtomicU64, Ordering};
@@ -23,17 +23,22 @@ impl MemClock {
             shown: AtomicU64::new(0),
         }
     }
+
+    // What is shown after so many moments.
+    fn moment(&self, shown: u64) -> u64
+        ensures moment { result ≡ get_or self.now.moments.items (min shown (length self.now.moments.items - 1)) 0 }
+        ensures among { Contains self.now.moments.items result }
+    {
+        let last = self.moments.len() - 1;
+        self.moments[(shown as usize).min(last)]
+    }
 }
 
 impl Clock for MemClock {
-    ghost use Rattle.std.specs.Prelude.{Contains};
-
     ghost may_show = { λ c moment. Contains c.moments.items moment };
 
     fn now_ms(&self) -> u64 {
-        let last = self.moments.len() - 1;
-        let at = self.shown.fetch_add(1, Ordering::SeqCst);
-        self.moments[(at as usize).min(last)]
+        self.moment(self.shown.fetch_add(1, Ordering::SeqCst))
     }
 }
 

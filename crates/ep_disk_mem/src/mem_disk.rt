@@ -3,14 +3,15 @@
 ghost use Rattle.std.specs.Prelude.{◌≡◌, Bool, true, false, ◌==◌, ◌≤◌, ◌+◌, ◌<◌, ◌⊎◌, ◌∷◌, ◌++◌, [], List, ℕ, Option, Some, None, length, drop, vec_len, vec_capacity, OnOk, IfOk};
 ghost use Rattle.std.proofs.Common.{inl};
 ghost use Rattle.ep_disk_mem.specs.Held.{contents_of, HadImage, only_here, HasSpace, Since};
-ghost use Rattle.ep_disk_mem.specs.DiskCalls.{is_sure, never};
+ghost use Rattle.ep_disk_mem.specs.DiskCalls.{is_sure, never, plan_till};
 ghost use Rattle.ep_disk_mem.specs.Faults.{fails_never};
+ghost use Rattle.ep_outside.specs.Planned.{planned};
 ghost use Rattle.ep_outside.specs.Disk.{MayLeave, settled, Moves, Syncs};
 
 use crate::disk_calls::DiskCalls;
 use crate::faults::Faults;
 use crate::held::Held;
-use ep_outside::{Crash, Disk, Failed, Image};
+use ep_outside::{Crash, Device, Disk, Failed, Image};
 use ep_units::NoMemory;
 use std::alloc::{AllocError, Global};
 use std::snapshot::Snapshot;
@@ -40,8 +41,9 @@ impl MemDisk {
     /// A disk that holds these bytes, in sync. Its device calls of these numbers, counted from 1, fail.
     pub fn new(alloc: Global, bytes: Vec<u8>, fails: Vec<u64>) -> Result<MemDisk, NoMemory>
         ensures told { IfOk result (λ d. ⟦<MemDisk as Disk>⟧.told d ≡ Some (settled bytes.items)) }
-        ensures failures { IfOk result (λ d. ⟦<MemDisk as Disk>⟧.failures d ≡ 0) }
-        ensures steady { IfOk result (λ d. ⟦<MemDisk as Disk>⟧.is_steady d ≡ (length fails.items == 0)) }
+        ensures failures { IfOk result (λ d. ⟦<MemDisk as Device>⟧.failures d ≡ 0) }
+        ensures plan { IfOk result (λ d. ⟦<MemDisk as Device>⟧.plan d ≡ Some (planned fails.items)) }
+        ensures steady { IfOk result (λ d. ⟦<MemDisk as Device>⟧.is_steady d ≡ (length fails.items == 0)) }
         ensures alone { IfOk result (λ d. ⟦<MemDisk as Disk>⟧.stops_alone d ≡ (length fails.items == 0)) }
         ensures stop { IfOk result (λ d. ⟦<MemDisk as Disk>⟧.left d ≡ None) }
         ensures bytes_read { IfOk result (λ d. ⟦<MemDisk as Disk>⟧.bytes_read d ≡ Some 0) }
@@ -70,6 +72,20 @@ impl MemDisk {
     }
 }
 
+impl Device for MemDisk {
+    ghost failures = { λ d. d.calls.faults.failures };
+
+    ghost is_steady = { λ d. is_sure d.calls };
+
+    ghost plan = { λ d. plan_till d.calls.left d.calls.faults };
+
+    ghost never_fails = { λ d steady. never d.calls steady };
+
+    fn faults(&self) -> u64 {
+        self.calls.faults.failures
+    }
+}
+
 impl Disk for MemDisk {
     ghost told = { λ d. Some (contents_of d.held) };
 
@@ -78,10 +94,6 @@ impl Disk for MemDisk {
     ghost since = { λ d t c. Since d.past.items d.held t c };
 
     ghost room = { λ d. record { calls = d.room_calls; bytes = d.room_bytes } };
-
-    ghost failures = { λ d. d.calls.faults.failures };
-
-    ghost is_steady = { λ d. is_sure d.calls };
 
     ghost left = { λ d. d.calls.left };
 
@@ -94,12 +106,6 @@ impl Disk for MemDisk {
     ghost only_now = { λ d c left. only_here d.past.items (contents_of d.held) c left };
 
     ghost reads_as_left = { λ d. d.sound };
-
-    ghost never_fails = { λ d steady. never d.calls steady };
-
-    fn faults(&self) -> u64 {
-        self.calls.faults.failures
-    }
 
     fn length(&mut self) -> Result<u64, Failed> {
         self.calls.call()?;

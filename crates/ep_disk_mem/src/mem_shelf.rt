@@ -3,14 +3,16 @@
 ghost use Rattle.std.specs.Prelude.{◌≡◌, ◌==◌, ◌&&◌, true, [], ℕ, List, Some, None, IsTrue, IfOk, length};
 ghost use Rattle.ep_outside.specs.Disk.{Contents, settled};
 ghost use Rattle.ep_outside.specs.Shelf.{rises};
-ghost use Rattle.ep_disk_mem.specs.Faults.{fails_never};
-ghost use Rattle.ep_disk_mem.specs.Slots.{all_sure, are_sure, names_in, names_of, told_in, told_of};
+ghost use Rattle.ep_outside.specs.Planned.{planned};
+ghost use Rattle.ep_disk_mem.specs.Faults.{fails_never, plan_of};
+ghost use Rattle.ep_disk_mem.specs.Files.{are_sure, names_in, told_in};
+ghost use Rattle.ep_disk_mem.specs.Slots.{all_sure, names_of, told_of};
 
 use crate::faults::Faults;
 use crate::mem_disk::MemDisk;
 use crate::mem_file::MemFile;
 use crate::slots::{Slot, are_sure, disk_at, file_slots, put_slot, slot_names};
-use ep_outside::{Disk, Shelf, ShelfBad};
+use ep_outside::{Device, Disk, Shelf, ShelfBad};
 use ep_units::{NoMemory, PadId};
 use std::alloc::Global;
 
@@ -35,8 +37,9 @@ impl MemShelf {
     pub fn new(alloc: Global, files: Vec<MemFile>, fails: Vec<u64>) -> Result<MemShelf, NoMemory>
         ensures told { IfOk result (λ s. (name : List ℕ) → ⟦<MemShelf as Shelf>⟧.told s name ≡ told_in files.items name) }
         ensures names { IfOk result (λ s. ⟦<MemShelf as Shelf>⟧.names s ≡ Some (names_in files.items)) }
-        ensures failures { IfOk result (λ s. ⟦<MemShelf as Shelf>⟧.failures s ≡ 0) }
-        ensures steady { IfOk result (λ s. ⟦<MemShelf as Shelf>⟧.is_steady s ≡ ((length fails.items == 0) && are_sure files.items)) }
+        ensures failures { IfOk result (λ s. ⟦<MemShelf as Device>⟧.failures s ≡ 0) }
+        ensures plan { IfOk result (λ s. ⟦<MemShelf as Device>⟧.plan s ≡ Some (planned fails.items)) }
+        ensures steady { IfOk result (λ s. ⟦<MemShelf as Device>⟧.is_steady s ≡ ((length fails.items == 0) && are_sure files.items)) }
     {
         let is_sure = are_sure(&files, &fails);
         let slots = file_slots(alloc, files)?;
@@ -49,22 +52,26 @@ impl MemShelf {
     }
 }
 
-impl Shelf for MemShelf {
-    type D = MemDisk;
-
-    ghost names = { λ s. Some (names_of s.slots.items) };
-
-    ghost told = { λ s name. told_of s.slots.items name };
-
+impl Device for MemShelf {
     ghost failures = { λ s. s.faults.failures };
 
     ghost is_steady = { λ s. s.is_sure };
+
+    ghost plan = { λ s. Some (plan_of s.faults) };
 
     ghost never_fails = { λ s steady. (s.sure steady).1 };
 
     fn faults(&self) -> u64 {
         self.faults.failures
     }
+}
+
+impl Shelf for MemShelf {
+    type D = MemDisk;
+
+    ghost names = { λ s. Some (names_of s.slots.items) };
+
+    ghost told = { λ s name. told_of s.slots.items name };
 
     fn names(&mut self) -> Result<Vec<PadId>, ShelfBad> {
         if self.faults.call().is_err() {

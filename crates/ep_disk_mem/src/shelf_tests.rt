@@ -1,7 +1,7 @@
 //! A shelf in memory, through its trait.
 
 use crate::{MemFile, MemShelf};
-use ep_outside::{Disk, Failed, Shelf, ShelfBad};
+use ep_outside::{Device, Disk, Failed, Shelf, ShelfBad};
 use ep_units::{NoMemory, PadId, Units};
 use std::alloc::Global;
 use std::test::Fail;

@@ -3,11 +3,12 @@
 ghost use Rattle.std.specs.Prelude.{◌≡◌, ◌∷◌, [], true, ℕ, List, None, bytes_eq, length, ◌==◌, ◌&&◌, IsTrue, IfOk, OnOk, OnErr};
 ghost use Rattle.ep_units.specs.Text.{text_cmp};
 ghost use Rattle.ep_outside.specs.Shelf.{Holds, rises};
-ghost use Rattle.ep_disk_mem.specs.Slots.{all_sure, are_sure, is_sure, names_in, names_of, put_in, slot_of, told_file, told_in, told_of};
+ghost use Rattle.ep_disk_mem.specs.Files.{are_sure, names_in, told_in};
+ghost use Rattle.ep_disk_mem.specs.Slots.{all_sure, is_sure, names_of, put_in, slot_of, told_file, told_of};
 
 use crate::mem_disk::MemDisk;
 use crate::mem_file::MemFile;
-use ep_outside::Disk;
+use ep_outside::{Device, Disk};
 use ep_units::{NoMemory, PadId};
 use std::alloc::Global;
 use std::cmp::Ordering;
@@ -41,9 +42,9 @@ fn order(a: &PadId, b: &PadId) -> Ordering
 /// The disk of a file; an empty one where the file was opened before.
 fn disk_of(alloc: Global, file: &Option<Stored>) -> Result<MemDisk, NoMemory>
     ensures holds { IfOk result (λ disk. Holds (told_file file.now) (⟦<MemDisk as Disk>⟧.told disk)) }
-    ensures failures { IfOk result (λ disk. ⟦<MemDisk as Disk>⟧.failures disk ≡ 0) }
+    ensures failures { IfOk result (λ disk. ⟦<MemDisk as Device>⟧.failures disk ≡ 0) }
     ensures stop { IfOk result (λ disk. ⟦<MemDisk as Disk>⟧.left disk ≡ None) }
-    ensures steady { IfOk result (λ disk. IsTrue (is_sure file.now) → ⟦<MemDisk as Disk>⟧.is_steady disk ≡ true) }
+    ensures steady { IfOk result (λ disk. IsTrue (is_sure file.now) → ⟦<MemDisk as Device>⟧.is_steady disk ≡ true) }
 {
     match file {
         Some(file) => {
@@ -58,9 +59,9 @@ fn disk_of(alloc: Global, file: &Option<Stored>) -> Result<MemDisk, NoMemory>
 /// The disk of a name.
 pub fn disk_at(alloc: Global, slots: &[Slot], name: &PadId) -> Result<MemDisk, NoMemory>
     ensures holds { IfOk result (λ disk. Holds (told_of slots.now name.now) (⟦<MemDisk as Disk>⟧.told disk)) }
-    ensures failures { IfOk result (λ disk. ⟦<MemDisk as Disk>⟧.failures disk ≡ 0) }
+    ensures failures { IfOk result (λ disk. ⟦<MemDisk as Device>⟧.failures disk ≡ 0) }
     ensures stop { IfOk result (λ disk. ⟦<MemDisk as Disk>⟧.left disk ≡ None) }
-    ensures steady { IfOk result (λ disk. IsTrue (all_sure slots.now) → ⟦<MemDisk as Disk>⟧.is_steady disk ≡ true) }
+    ensures steady { IfOk result (λ disk. IsTrue (all_sure slots.now) → ⟦<MemDisk as Device>⟧.is_steady disk ≡ true) }
 {
     for slot in slots {
         if is_same(name, &slot.name) {

@@ -1,7 +1,7 @@
 //! The devices in memory, each once.
 
 use crate::{MemDisk, MemSink, MemSource};
-use ep_outside::{Crash, Disk, Failed, Image, Sink, read_all};
+use ep_outside::{Crash, Device, Disk, Failed, Image, Sink, read_all};
 use std::alloc::Global;
 use std::test::Fail;
 

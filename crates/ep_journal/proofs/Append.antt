@@ -7,7 +7,8 @@ use Rattle.std.specs.Int.{w32, to_be_bytes, from_be_bytes}
 use Rattle.std.proofs.lemmas.Nat.{from_be_bytes-to_be_bytes_4}
 use Rattle.ep_outside.specs.Disk.{written}
 use Rattle.ep_outside.specs.Images.{Torn}
-use Rattle.ep_journal.specs.File.{header, size_at, is_open, record_at, records_from, records_of, end_of, gates_of, closed_gate, is_foreign, stands_for, IsAtRest, frame_of, staged_file, grown_file, IsByGate}
+use Rattle.ep_journal.specs.File.{header, size_at, is_open, record_at, records_from, records_of, end_of, gates_of, closed_gate, is_foreign, stands_for, IsAtRest, frame_of, IsByGate}
+use Rattle.ep_journal.specs.Repair.{staged_file, grown_file}
 use Rattle.ep_journal.proofs.File.{skipped, is_open_by, shut_gate, none_shut, one_open, grown}
 
 pub native : (file : List ℕ) → take 8 file ≡ header → is_foreign file ≡ false

@@ -8,8 +8,8 @@ use Rattle.ep_outside.specs.Crash.{Restarts, IsAsked}
 use Rattle.ep_outside.specs.declared.image.Image.{Image}
 use Rattle.ep_outside.specs.Images.{Torn}
 use Rattle.ep_outside.proofs.Images.{only_told}
-use Rattle.ep_journal.specs.File.{records_of, closed_gate, end_of, gates_of, stands_for, frame_of, staged_file, grown_file, IsByGate, IsBeforeOrAfter}
-use Rattle.ep_journal.specs.Repair.{IsStored}
+use Rattle.ep_journal.specs.File.{records_of, closed_gate, end_of, gates_of, stands_for, frame_of, IsByGate, IsBeforeOrAfter}
+use Rattle.ep_journal.specs.Repair.{staged_file, grown_file, IsStored}
 use Rattle.ep_journal.specs.Held.{IsHeld, HoldsFile, Adds, IsRecord, IsHalfway, HasCount}
 use Rattle.ep_journal.specs.Walking.{AreSpaced}
 use Rattle.ep_journal.specs.Refusals.{OpenRefused}

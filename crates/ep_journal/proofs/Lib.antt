@@ -6,3 +6,4 @@ pub mod Mending
 pub mod Gates
 pub mod Repairing
 pub mod Restarting
+pub mod Sparing

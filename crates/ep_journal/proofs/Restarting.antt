@@ -1,7 +1,6 @@
 -- An opening of the image that a restart left.
-use Rattle.std.proofs.Common.{inl, inr, ⊎_elim, ℕ, List, Option, Result, Ok, Err}
+use Rattle.std.proofs.Common.{inl, inr, ⊎_elim, ℕ, List, Result, Ok, Err}
 use Rattle.std.specs.Prelude.{MatchResult}
-use Rattle.ep_outside.specs.Disk.{Contents, IsImage}
 use Rattle.ep_outside.specs.Moments.{LeavesOnly, LeavesFirst, MayLeaveFirst}
 use Rattle.ep_outside.proofs.Moments.{joined, weaker}
 use Rattle.ep_journal.specs.declared.journal_bad.JournalBad.{JournalBad}

@@ -1,5 +1,5 @@
 -- A journal's file, and what it stands for.
-use Rattle.std.specs.Prelude.{◌≡◌, ℕ, zero, suc, ◌+◌, List, [], ◌∷◌, ◌++◌, length, get_or, take, drop, set, Bool, ◌⊎◌, ◌&&◌, not, nat_lt, nat_le, ◌==◌, bytes_eq, if◌then◌else◌, Option, Some, None}
+use Rattle.std.specs.Prelude.{◌≡◌, ℕ, zero, suc, ◌+◌, ◌<◌, ◌≤◌, List, [], ◌∷◌, ◌++◌, length, get_or, take, drop, set, Bool, ◌⊎◌, ◌&&◌, not, nat_lt, nat_le, ◌==◌, bytes_eq, if◌then◌else◌, Option, Some, None}
 use Rattle.std.specs.Int.{w32, to_be_bytes, from_be_bytes}
 
 -- EPADJNL1
@@ -72,14 +72,6 @@ pub record IsAtRest (file : List ℕ) : Type 0 where
 abbrev pub frame_of : List ℕ → List ℕ
 frame_of rec = to_be_bytes w32 (length rec) ++ rec ++ 0 ∷ []
 
--- with that behind its closed gate
-abbrev pub staged_file : List ℕ → List ℕ → List ℕ
-staged_file file rec = take (closed_gate file) file ++ 0 ∷ frame_of rec
-
--- and with the gate opened
-abbrev pub grown_file : List ℕ → List ℕ → List ℕ
-grown_file file rec = take (closed_gate file) file ++ 1 ∷ frame_of rec
-
 -- what an opening makes of a file: its records with a gate 00 behind them, and nothing else; of at most 9 bytes a new journal
 abbrev pub mended : List ℕ → List ℕ
 mended file = if nat_lt 9 (length file) then take (closed_gate file) file ++ 0 ∷ [] else header ++ 0 ∷ []
@@ -87,6 +79,16 @@ mended file = if nat_lt 9 (length file) then take (closed_gate file) file ++ 0 �
 -- the image stands for what the file stands for, or for what it stands for with its first closed gate opened
 abbrev pub StandsNear : List ℕ → List ℕ → Type 0
 StandsNear file image = (stands_for image ≡ stands_for file) ⊎ (stands_for image ≡ stands_for (opened file))
+
+-- a file that an opening need not write anew: of more than 9 bytes, or a new journal
+abbrev pub IsLongOrNew : List ℕ → Type 0
+IsLongOrNew file = (9 < length file) ⊎ (file ≡ header ++ 0 ∷ [])
+
+-- What a crash may leave of a file while an opening mends it. It stands near the file; and unless the file is written anew, it gets no longer, and each byte that is right already stays.
+pub record IsMending (file image : List ℕ) : Type 0 where
+  pub near : StandsNear file image
+  pub no_longer : IsLongOrNew file → length image ≤ length file
+  pub right : IsLongOrNew file → (i : ℕ) → i < length (mended file) → get_or file i 0 ≡ get_or (mended file) i 0 → (i < length image) × (get_or image i 0 ≡ get_or file i 0)
 
 -- the image stands for these records, with one more or without it
 abbrev pub IsBeforeOrAfter : List (List ℕ) → List ℕ → List ℕ → Type 0

@@ -1,4 +1,4 @@
--- What is read of a journal's gates.
+-- Working words of private contracts: what is read of a journal's gates.
 use Rattle.std.specs.Prelude.{◌≡◌, ℕ, ◌+◌, ◌<◌, ◌≤◌, List, ◌++◌, ◌∷◌, [], length, get_or, drop, Option, Some, None}
 use Rattle.ep_outside.specs.Disk.{Contents}
 use Rattle.ep_journal.specs.File.{size_behind, records_of, records_from, gates_of, end_of, closed_gate}

@@ -4,7 +4,7 @@ ghost use Rattle.std.specs.Prelude.{get_or, ◌⊎◌, ◌≡◌, ◌+◌, ◌*�
 ghost use Rattle.ep_outside.specs.Disk.{Contents, IsImage, IsSure, KeepsMarks, settled};
 ghost use Rattle.ep_outside.specs.Moments.{LeavesOnly, LeavesFirst, MayLeaveFirst};
 ghost use Rattle.ep_outside.specs.Crash.{IsAsked, image_at};
-ghost use Rattle.ep_journal.specs.File.{records_of, stands_for, closed_gate, mended, is_foreign, StandsNear, IsBeforeOrAfter, IsByGate};
+ghost use Rattle.ep_journal.specs.File.{records_of, stands_for, closed_gate, mended, is_foreign, IsMending, IsBeforeOrAfter, IsByGate};
 ghost use Rattle.ep_journal.specs.Held.{Adds, Stands, HasCount, IsRecord, IsHalfway, IsForeign};
 ghost use Rattle.ep_journal.specs.Reads.{ReadsUpTo};
 ghost use Rattle.ep_journal.specs.Refusals.{OpenRefused, AppendRefused, ReadRefused};
@@ -36,10 +36,11 @@ impl<D: Disk> Journal<D> {
     /// Opens the disk of a journal whose file may have so many bytes. A refusal hands the disk back.
     pub fn open(alloc: Global, disk: D, limit: u64) -> Result<Journal<D>, Refused<D, JournalBad>>
         // Until the first sync a crash leaves what it could have left before the call, and from then on
-        // what stands for the file's records, or for those with its first closed gate opened.
+        // what stands for the file's records, or for those with its first closed gate opened; what is right
+        // already is not written again.
         ensures crash { (c : Contents) → D.told disk ≡ Some c → MatchResult result
-            (λ journal. LeavesFirst D.moment D.since disk (disk_of journal) (IsImage (D.told disk)) (StandsNear c.seen))
-            (λ refused. MayLeaveFirst D.moment D.since disk refused.back (IsImage (D.told disk)) (StandsNear c.seen)) }
+            (λ journal. LeavesFirst D.moment D.since disk (disk_of journal) (IsImage (D.told disk)) (IsMending c.seen))
+            (λ refused. MayLeaveFirst D.moment D.since disk refused.back (IsImage (D.told disk)) (IsMending c.seen)) }
 
         ensures ready { IfOk result (IsReady D.told) }
         ensures records { (c : Contents) → D.told disk ≡ Some c → IfOk result (λ journal. Stands (D.told (disk_of journal)) (stands_for c.seen)) }
@@ -74,8 +75,8 @@ impl<D: Disk> Journal<D> {
     /// Opens the disk again. After an `Err` the journal is closed.
     pub fn reopen(&mut self, alloc: Global) -> Result<(), JournalBad>
         ensures crash { (c : Contents) → D.told (disk_of self.old) ≡ Some c → MatchResult result
-            (λ _. LeavesFirst D.moment D.since (disk_of self.old) (disk_of self.new) (IsImage (D.told (disk_of self.old))) (StandsNear c.seen))
-            (λ _. MayLeaveFirst D.moment D.since (disk_of self.old) (disk_of self.new) (IsImage (D.told (disk_of self.old))) (StandsNear c.seen)) }
+            (λ _. LeavesFirst D.moment D.since (disk_of self.old) (disk_of self.new) (IsImage (D.told (disk_of self.old))) (IsMending c.seen))
+            (λ _. MayLeaveFirst D.moment D.since (disk_of self.old) (disk_of self.new) (IsImage (D.told (disk_of self.old))) (IsMending c.seen)) }
 
         ensures ready { OnOk result (IsReady D.told self.new) }
         ensures closed { OnErr result (IsClosed self.new) }
@@ -248,8 +249,8 @@ impl<D: Crash> Journal<D> {
         // image; from then on as an opening of the image.
         ensures crash { (c : Contents) → D.told (disk_of self.old) ≡ Some c
             → (image : List ℕ) × IsAsked c (image_at (D.left (disk_of self.old)) (D.image (disk_of self.old))) image × MatchResult result
-            (λ _. LeavesFirst D.moment D.since (disk_of self.old) (disk_of self.new) (IsImageOr (D.told (disk_of self.old)) image) (StandsNear image))
-            (λ _. MayLeaveFirst D.moment D.since (disk_of self.old) (disk_of self.new) (IsImageOr (D.told (disk_of self.old)) image) (StandsNear image)) }
+            (λ _. LeavesFirst D.moment D.since (disk_of self.old) (disk_of self.new) (IsImageOr (D.told (disk_of self.old)) image) (IsMending image))
+            (λ _. MayLeaveFirst D.moment D.since (disk_of self.old) (disk_of self.new) (IsImageOr (D.told (disk_of self.old)) image) (IsMending image)) }
         ensures reads { OnOk result (ReadsUpTo (D.bytes_read (disk_of self.old)) (D.bytes_read (disk_of self.new)) (5 * count_of self.new + 14)) }
         ensures refused { IfErr result (OpenRefused (Unit {0}) ((D.is_steady (disk_of self.old) ≡ true) ⊎ (D.stops_alone (disk_of self.old) ≡ true)) (D.failures (disk_of self.old)) (D.failures (disk_of self.new))) }
         ensures ready { OnOk result (IsReady D.told self.new) }

@@ -19,6 +19,3 @@ pub use head::RECORD_MAX;
 pub use journal::Journal;
 pub use journal_bad::JournalBad;
 pub use scanning::{Records, scan};
-
-#[cfg(test)]
-mod tests;

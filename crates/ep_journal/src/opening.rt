@@ -4,7 +4,7 @@ ghost use Rattle.std.specs.Prelude.{IsOk, false, MatchResult, ◌≡◌, ◌+◌
 ghost use Rattle.ep_outside.specs.Outside.{HasRisen};
 ghost use Rattle.ep_outside.specs.Disk.{HasRoom, KeepsMarks, IsSure, Contents, IsImage, Reaches, settled};
 ghost use Rattle.ep_outside.specs.Moments.{LeavesOnly, LeavesFirst, MayLeaveFirst};
-ghost use Rattle.ep_journal.specs.File.{StandsNear, mended, is_foreign, gates_of, records_of, closed_gate, header};
+ghost use Rattle.ep_journal.specs.File.{IsMending, mended, is_foreign, gates_of, records_of, closed_gate, header};
 ghost use Rattle.ep_journal.specs.Held.{IsHeld, IsForeign};
 ghost use Rattle.ep_journal.specs.Refusals.{OpenRefused};
 ghost use Rattle.ep_journal.specs.Reads.{ReadsUpTo};
@@ -23,7 +23,7 @@ fn close_gate<D: Disk>(disk: &mut D, gate: u64) -> Result<(), Failed>
     requires fits { gate + 1 < 2 ^ 64 }
     requires inside { Reaches (D.told disk.old) (gate + 1) }
     requires room { HasRoom (D.room disk.old) 2 1 }
-    ensures crash { (file : List ℕ) → IsClosing file gate → D.told disk.old ≡ Some (settled file) → LeavesOnly D.moment D.since disk.old disk.new (StandsNear file) }
+    ensures crash { (file : List ℕ) → IsClosing file gate → D.told disk.old ≡ Some (settled file) → LeavesOnly D.moment D.since disk.old disk.new (IsMending file) }
     ensures done { (file : List ℕ) → IsClosing file gate → D.told disk.old ≡ Some (settled file) → OnOk result (D.told disk.new ≡ Some (settled (zeroed file))) }
     ensures longer { OnOk result (Reaches (D.told disk.new) (gate + 1)) }
     ensures room { ((D.room disk.old).calls ≤ (D.room disk.new).calls + 2) }
@@ -45,7 +45,7 @@ fn cut_rest<D: Disk>(disk: &mut D, gate: u64, total: u64) -> Result<(), Failed>
     requires within { gate < total }
     requires inside { Reaches (D.told disk.old) (gate + 1) }
     requires room { HasRoom (D.room disk.old) 2 0 }
-    ensures crash { (file : List ℕ) → IsClosing file gate → total ≡ length file → D.told disk.old ≡ Some (settled (zeroed file)) → LeavesOnly D.moment D.since disk.old disk.new (StandsNear file) }
+    ensures crash { (file : List ℕ) → IsClosing file gate → total ≡ length file → D.told disk.old ≡ Some (settled (zeroed file)) → LeavesOnly D.moment D.since disk.old disk.new (IsMending file) }
     ensures done { (file : List ℕ) → IsClosing file gate → total ≡ length file → D.told disk.old ≡ Some (settled (zeroed file)) → OnOk result (D.told disk.new ≡ Some (settled (mended file))) }
     ensures tells { D.told disk.old ≡ None → D.told disk.new ≡ None }
     ensures marks { KeepsMarks D.is_steady D.stops_alone D.left disk.old disk.new }
@@ -65,7 +65,7 @@ fn make_fresh<D: Disk>(disk: &mut D, total: u64) -> Result<(), Failed>
     requires short { total ≤ 9 }
     requires inside { Reaches (D.told disk.old) total }
     requires room { HasRoom (D.room disk.old) 2 9 }
-    ensures crash { (file : List ℕ) → total ≡ length file → D.told disk.old ≡ Some (settled file) → LeavesOnly D.moment D.since disk.old disk.new (StandsNear file) }
+    ensures crash { (file : List ℕ) → total ≡ length file → D.told disk.old ≡ Some (settled file) → LeavesOnly D.moment D.since disk.old disk.new (IsMending file) }
     ensures done { (file : List ℕ) → total ≡ length file → D.told disk.old ≡ Some (settled file) → OnOk result (D.told disk.new ≡ Some (settled (mended file))) }
     ensures tells { D.told disk.old ≡ None → D.told disk.new ≡ None }
     ensures marks { KeepsMarks D.is_steady D.stops_alone D.left disk.old disk.new }
@@ -85,6 +85,7 @@ fn make_fresh<D: Disk>(disk: &mut D, total: u64) -> Result<(), Failed>
 fn is_fresh<D: Disk>(disk: &mut D, total: u64) -> Result<bool, Failed>
     requires { Reaches (D.told disk.old) total }
     ensures fresh { (file : List ℕ) → total ≡ length file → length file ≤ 9 → D.told disk.old ≡ Some (settled file) → IfOk result (λ fresh. fresh ≡ true → file ≡ mended file) }
+    ensures known { (file : List ℕ) → total ≡ length file → D.told disk.old ≡ Some (settled file) → IfOk result (λ fresh. file ≡ header ++ 0 ∷ [] → fresh ≡ true) }
     ensures same { D.told disk.new ≡ D.told disk.old }
     ensures room { D.room disk.new ≡ D.room disk.old }
     ensures images { LeavesOnly D.moment D.since disk.old disk.new (IsImage (D.told disk.old)) }
@@ -129,7 +130,7 @@ fn mend<D: Disk>(alloc: Global, disk: &mut D, total: u64) -> Result<Found, DiskB
     requires inside { Reaches (D.told disk.old) total }
     requires long { 9 < total }
     requires room { HasRoom (D.room disk.old) 4 1 }
-    ensures crash { (file : List ℕ) → IsLongJournal file total → D.told disk.old ≡ Some (settled file) → LeavesOnly D.moment D.since disk.old disk.new (StandsNear file) }
+    ensures crash { (file : List ℕ) → IsLongJournal file total → D.told disk.old ≡ Some (settled file) → LeavesOnly D.moment D.since disk.old disk.new (IsMending file) }
     ensures done { (file : List ℕ) → IsLongJournal file total → D.told disk.old ≡ Some (settled file) → OnOk result (D.told disk.new ≡ Some (settled (mended file))) }
     ensures gates { (file : List ℕ) → IsLongJournal file total → D.told disk.old ≡ Some (settled file) → IfOk result (λ found. (found.gates.items ≡ gates_of 8 (records_of file)) × (found.gate ≡ closed_gate file)) }
     ensures spaced { IfOk result (λ found. AreSpaced found.gates.items found.gate) }
@@ -150,7 +151,7 @@ fn mend<D: Disk>(alloc: Global, disk: &mut D, total: u64) -> Result<Found, DiskB
 /// Opens a disk that is in sync; `None` where its file is no journal.
 #[tactic(auto, using(crate::proofs::Counting::none_read))]
 fn find_journal<D: Disk>(alloc: Global, disk: &mut D) -> Result<Option<Found>, DiskBad>
-    ensures crash { (file : List ℕ) → D.told disk.old ≡ Some (settled file) → LeavesOnly D.moment D.since disk.old disk.new (StandsNear file) }
+    ensures crash { (file : List ℕ) → D.told disk.old ≡ Some (settled file) → LeavesOnly D.moment D.since disk.old disk.new (IsMending file) }
     ensures done { (file : List ℕ) → D.told disk.old ≡ Some (settled file) → IfOk result (λ found. OnSome found (D.told disk.new ≡ Some (settled (mended file)))) }
     ensures gates { (file : List ℕ) → D.told disk.old ≡ Some (settled file) → IfOk result (λ found. IfSome found (λ f. (f.gates.items ≡ gates_of 8 (records_of (mended file))) × (f.gate ≡ closed_gate (mended file)))) }
     ensures spaced { IfOk result (λ found. IfSome found (λ f. AreSpaced f.gates.items f.gate)) }
@@ -185,8 +186,8 @@ fn find_journal<D: Disk>(alloc: Global, disk: &mut D) -> Result<Option<Found>, D
 #[tactic(auto, using(crate::proofs::Counting::none_read))]
 pub fn open_disk<D: Disk>(alloc: Global, disk: &mut D) -> Result<Found, JournalBad>
     ensures crash { (c : Contents) → D.told disk.old ≡ Some c → MatchResult result
-        (λ _. LeavesFirst D.moment D.since disk.old disk.new (IsImage (D.told disk.old)) (StandsNear c.seen))
-        (λ _. MayLeaveFirst D.moment D.since disk.old disk.new (IsImage (D.told disk.old)) (StandsNear c.seen)) }
+        (λ _. LeavesFirst D.moment D.since disk.old disk.new (IsImage (D.told disk.old)) (IsMending c.seen))
+        (λ _. MayLeaveFirst D.moment D.since disk.old disk.new (IsImage (D.told disk.old)) (IsMending c.seen)) }
     ensures held { IfOk result (λ found. IsHeld (D.told disk.new) found.gates.items found.gate) }
     ensures file { (c : Contents) → D.told disk.old ≡ Some c → OnOk result (D.told disk.new ≡ Some (settled (mended c.seen))) }
     ensures native { (c : Contents) → D.told disk.old ≡ Some c → OnOk result (is_foreign c.seen ≡ false) }

@@ -1,13 +1,14 @@
 //! Changes of a disk that are synced before they return.
 
 ghost use Rattle.std.specs.Prelude.{[], ◌∷◌, ◌^◌, ◌≡◌, ◌+◌, ◌≤◌, ◌<◌, length, take, List, ℕ, Option, Some, None, true, OnOk, OnErr, IsOk, IsErr};
-ghost use Rattle.ep_outside.specs.Disk.{HasRoom, KeepsMarks, HasCause, Contents, IsImage, Reaches, settled, written, wrote};
+ghost use Rattle.ep_outside.specs.Disk.{HasRoom, KeepsMarks, Contents, IsImage, Reaches, settled, written, wrote};
 ghost use Rattle.ep_outside.specs.Images.{Torn, Front};
+ghost use Rattle.ep_outside.specs.Outside.{HasCause};
 ghost use Rattle.ep_outside.specs.Moments.{LeavesOnly};
-ghost use Rattle.ep_journal.specs.File.{records_of, stands_for, grown_file, IsByGate};
+ghost use Rattle.ep_journal.specs.File.{records_of, stands_for, IsByGate};
+ghost use Rattle.ep_journal.specs.Repair.{grown_file, IsStored};
 ghost use Rattle.ep_journal.specs.Held.{IsHalfway};
 ghost use Rattle.ep_journal.specs.Reads.{ReadsUpTo};
-ghost use Rattle.ep_journal.specs.Repair.{IsStored};
 
 use ep_outside::{Disk, Failed};
 
@@ -21,7 +22,7 @@ pub fn put<D: Disk>(disk: &mut D, at: u64, bytes: &[u8]) -> Result<(), Failed>
     ensures longer { (n : ℕ) → Reaches (D.told disk.old) n → OnOk result (Reaches (D.told disk.new) n) }
     ensures tells { D.told disk.old ≡ None → D.told disk.new ≡ None }
     ensures room { ((D.room disk.old).calls ≤ (D.room disk.new).calls + 2) × ((D.room disk.old).bytes ≤ (D.room disk.new).bytes + length bytes.now) }
-    ensures cause { HasCause (D.failures disk.old) (D.failures disk.new) (D.is_steady disk.old) (D.is_steady disk.new) result }
+    ensures cause { HasCause (D.failures disk.old) (D.failures disk.new) (D.is_steady disk.old) (D.is_steady disk.new) (IsErr result) }
     ensures reads { ReadsUpTo (D.bytes_read disk.old) (D.bytes_read disk.new) 0 }
     ensures marks { KeepsMarks D.is_steady D.stops_alone D.left disk.old disk.new }
     ensures sure { D.stops_alone disk.old ≡ true → D.left disk.old ≡ None → IsOk result }
@@ -43,7 +44,7 @@ pub fn clip<D: Disk>(disk: &mut D, to: u64) -> Result<(), Failed>
     ensures crash { (s : List ℕ) → D.told disk.old ≡ Some (settled s) → to ≤ length s → LeavesOnly D.moment D.since disk.old disk.new (Front to s) }
     ensures done { (s : List ℕ) → D.told disk.old ≡ Some (settled s) → OnOk result (D.told disk.new ≡ Some (settled (take to s))) }
     ensures tells { D.told disk.old ≡ None → D.told disk.new ≡ None }
-    ensures cause { HasCause (D.failures disk.old) (D.failures disk.new) (D.is_steady disk.old) (D.is_steady disk.new) result }
+    ensures cause { HasCause (D.failures disk.old) (D.failures disk.new) (D.is_steady disk.old) (D.is_steady disk.new) (IsErr result) }
     ensures reads { ReadsUpTo (D.bytes_read disk.old) (D.bytes_read disk.new) 0 }
     ensures marks { KeepsMarks D.is_steady D.stops_alone D.left disk.old disk.new }
     ensures sure { D.stops_alone disk.old ≡ true → D.left disk.old ≡ None → IsOk result }
@@ -59,7 +60,7 @@ pub fn settle<D: Disk>(disk: &mut D) -> Result<(), Failed>
     ensures crash { LeavesOnly D.moment D.since disk.old disk.new (IsImage (D.told disk.old)) }
     ensures done { (c : Contents) → D.told disk.old ≡ Some c → OnOk result (D.told disk.new ≡ Some (settled c.seen)) }
     ensures tells { D.told disk.old ≡ None → D.told disk.new ≡ None }
-    ensures cause { HasCause (D.failures disk.old) (D.failures disk.new) (D.is_steady disk.old) (D.is_steady disk.new) result }
+    ensures cause { HasCause (D.failures disk.old) (D.failures disk.new) (D.is_steady disk.old) (D.is_steady disk.new) (IsErr result) }
     ensures reads { ReadsUpTo (D.bytes_read disk.old) (D.bytes_read disk.new) 0 }
     ensures marks { KeepsMarks D.is_steady D.stops_alone D.left disk.old disk.new }
     ensures sure { D.stops_alone disk.old ≡ true → D.left disk.old ≡ None → IsOk result }
@@ -78,7 +79,7 @@ pub fn store<D: Disk>(disk: &mut D, gate: u64, bytes: &[u8]) -> Result<(), Faile
     ensures halfway { (file rec : List ℕ) → IsStored file rec gate bytes.now → D.told disk.old ≡ Some (settled file) → D.stops_alone disk.old ≡ true → D.left disk.old ≡ Some 3 → IsHalfway (D.told disk.new) (records_of file) rec }
     ensures goes_through { (k : ℕ) → D.stops_alone disk.old ≡ true → D.left disk.old ≡ Some (k + 4) → IsOk result }
     ensures tells { D.told disk.old ≡ None → D.told disk.new ≡ None }
-    ensures cause { HasCause (D.failures disk.old) (D.failures disk.new) (D.is_steady disk.old) (D.is_steady disk.new) result }
+    ensures cause { HasCause (D.failures disk.old) (D.failures disk.new) (D.is_steady disk.old) (D.is_steady disk.new) (IsErr result) }
     ensures marks { KeepsMarks D.is_steady D.stops_alone D.left disk.old disk.new }
     ensures sure { D.stops_alone disk.old ≡ true → D.left disk.old ≡ None → IsOk result }
 {

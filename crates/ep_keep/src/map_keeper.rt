@@ -1,54 +1,38 @@
 //! The keeper in memory.
 
-ghost use Rattle.std.specs.Prelude.{◌≡◌, ◌≤◌, ◌==◌, true, [], Some, IsTrue, IfOk, IsErrOf, List, length};
+ghost use Rattle.std.specs.Prelude.{◌≡◌, ◌==◌, ◌&&◌, true, [], Some, IsTrue, IfOk, IsErrOf, length};
 ghost use Rattle.ep_outside.specs.Kept.{after, rises};
-ghost use Rattle.ep_outside.specs.Outside.{HasRisen};
+ghost use Rattle.ep_outside.specs.Planned.{planned};
+ghost use Rattle.ep_disk_mem.specs.Faults.{fails_never, none_failed, plan_of};
 
 use crate::pairs::{copy_pairs, pairs_with, put_pairs, value_of};
-use ep_outside::{KeepBad, Keeper, Pair, Pairs, Put, Text};
+use ep_disk_mem::Faults;
+use ep_outside::{Device, KeepBad, Keeper, Pair, Pairs, Put, Text};
 use std::alloc::Global;
 
 /// A keeper in memory.
 #[derive(Drop)]
 pub struct MapKeeper {
     pairs: Vec<Pair>,
-    failing: Vec<u64>,
-    calls: u64,
-    faults: u64,
+    faults: Faults,
     alloc: Global,
-    ghost steady: { (length failing.items == 0) ≡ true → faults ≡ 0 },
     ghost rising: { IsTrue (rises pairs.items) },
 }
 
 impl MapKeeper {
     /// It holds nothing. Its calls of these numbers fail, counted from 1.
-    pub fn new(alloc: Global, failing: Vec<u64>) -> MapKeeper
-        ensures empty { result.pairs.items ≡ [] }
-        ensures no_faults { result.faults ≡ 0 }
-        ensures failing { result.failing ≡ failing }
+    pub fn new(alloc: Global, fails: Vec<u64>) -> MapKeeper
+        ensures told { ⟦<MapKeeper as Keeper>⟧.told result ≡ Some [] }
+        ensures always { ⟦<MapKeeper as Keeper>⟧.always_tells result ≡ true }
+        ensures failures { ⟦<MapKeeper as Device>⟧.failures result ≡ 0 }
+        ensures plan { ⟦<MapKeeper as Device>⟧.plan result ≡ Some (planned fails.items) }
+        ensures steady { ⟦<MapKeeper as Device>⟧.is_steady result ≡ (length fails.items == 0) }
     {
         MapKeeper {
             pairs: Vec::new(alloc),
-            failing,
-            calls: 0,
-            faults: 0,
+            faults: Faults::new(fails),
             alloc,
         }
-    }
-
-    // Counts a call, which may be to fail.
-    fn called(&mut self) -> Result<(), KeepBad>
-        ensures same { self.new.pairs ≡ self.old.pairs }
-        ensures later { self.old.faults ≤ self.new.faults }
-        ensures cause { IsErrOf result KeepBad.Failed → HasRisen self.old.faults self.new.faults }
-        ensures steady { self.new.failing ≡ self.old.failing }
-    {
-        self.calls = self.calls.saturating_add(1);
-        if self.failing.contains(&self.calls) {
-            self.faults = self.faults.saturating_add(1);
-            return Err(KeepBad::Failed);
-        }
-        Ok(())
     }
 
     fn after(&self, puts: &[Put]) -> Result<Vec<Pair>, KeepBad>
@@ -62,34 +46,48 @@ impl MapKeeper {
     }
 }
 
+impl Device for MapKeeper {
+    ghost failures = { λ k. k.faults.failures };
+
+    ghost is_steady = { λ k. fails_never k.faults && (k.faults.failures == 0) };
+
+    ghost plan = { λ k. Some (plan_of k.faults) };
+
+    ghost never_fails = { λ k steady. none_failed k.faults steady };
+
+    fn faults(&self) -> u64 {
+        self.faults.failures
+    }
+}
+
 impl Keeper for MapKeeper {
     ghost told = { λ k. Some k.pairs.items };
 
-    ghost failures = { λ k. k.faults };
+    ghost always_tells = { λ k. true };
 
-    ghost is_steady = { λ k. length k.failing.items == 0 };
-
-    ghost never_fails = { λ k steady. k.steady steady };
+    ghost tells = { λ k always. tt };
 
     ghost in_order = { λ k. k.rising };
 
-    fn faults(&self) -> u64 {
-        self.faults
-    }
-
     fn get(&mut self, key: &str) -> Result<Option<Text>, KeepBad> {
-        self.called()?;
+        if self.faults.call().is_err() {
+            return Err(KeepBad::Failed);
+        }
         Ok(value_of(self.alloc, self.pairs.as_slice(), key)?)
     }
 
     fn put_all(&mut self, puts: &[Put]) -> Result<(), KeepBad> {
-        self.called()?;
+        if self.faults.call().is_err() {
+            return Err(KeepBad::Failed);
+        }
         self.pairs = self.after(puts)?;
         Ok(())
     }
 
     fn list_prefix(&mut self, prefix: &str) -> Result<Pairs, KeepBad> {
-        self.called()?;
+        if self.faults.call().is_err() {
+            return Err(KeepBad::Failed);
+        }
         Ok(pairs_with(self.alloc, self.pairs.as_slice(), prefix)?)
     }
 }

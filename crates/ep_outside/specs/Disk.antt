@@ -1,6 +1,7 @@
 -- A disk: what a read gives, what isn't sure yet since the last sync, and what a crash may leave.
 use Rattle.std.specs.Prelude.{ℕ, ◌≡◌, ◌+◌, ◌-◌, ◌^◌, ◌<◌, ◌≤◌, ◌⊎◌, min, max, Bool, true, List, [], ◌∷◌, ◌++◌, length, take, drop, get_or, Option, Some, None, option_map, Result, Ok, Err, IsErr, OnErr, OnOk}
-use Rattle.ep_outside.specs.Outside.{HasRisen}
+use Rattle.ep_outside.specs.Outside.{HasCause}
+use Rattle.ep_outside.specs.Planned.{Plan, Follows}
 use Rattle.ep_outside.specs.declared.source.Failed.{Failed}
 
 -- what a read gives; the bytes at the last sync; the ranges written since, each with its end; the least and the greatest length since
@@ -108,12 +109,6 @@ pub record Moves (before now : ℕ) (past since : ℕ → List ℕ → Type 0) (
   pub nothing_else : (t : ℕ) (c : List ℕ) → t ≤ before → since t c → past t c ⊎ IsImage told c
   pub keeps : (t : ℕ) (c : List ℕ) → t ≤ before → past t c → since t c
 
--- a call fails only where the count rose; the count never falls, and the mark of a disk that never fails stays
-pub record HasCause {T : Type 0} (before now : ℕ) (was is : Bool) (result : Result T Failed) : Type 0 where
-  pub later : before ≤ now
-  pub failed : OnErr result (HasRisen before now)
-  pub steady : is ≡ was
-
 -- a read gave so many bytes more, or failed; a count of them stands still at the greatest `u64`
 abbrev pub GivesMore : {T : Type 0} → Option ℕ → Option ℕ → ℕ → Result T Failed → Type 0
 GivesMore before now n (Ok u) = now ≡ option_map (λ m. max m (min (m + n) (2 ^ 64 - 1))) before
@@ -129,6 +124,14 @@ pub record StopsAlone {T : Type 0} (was is : Bool) (left : Option ℕ) (before n
   pub fails : was ≡ true → OnErr result (left ≡ Some 0)
   pub count : was ≡ true → OnOk result (now ≡ before)
   pub same : is ≡ was
+
+-- Of a disk's device call: time goes on, a failure has its cause, calls fail as planned, and a stop that was asked for comes in its turn.
+pub record IsCall {D T : Type 0} (told : D → Option Contents) (moment : D → ℕ) (since : D → ℕ → List ℕ → Type 0) (failures : D → ℕ) (is_steady : D → Bool) (plan : D → Option Plan) (stops_alone : D → Bool) (left : D → Option ℕ) (old new : D) (result : Result T Failed) : Type 0 where
+  pub time : Moves (moment old) (moment new) (since old) (since new) (told new)
+  pub cause : HasCause (failures old) (failures new) (is_steady old) (is_steady new) (IsErr result)
+  pub planned : Follows (plan old) (plan new) (IsErr result)
+  pub stops : Stops (left old) (left new) result
+  pub alone : StopsAlone (stops_alone old) (stops_alone new) (left old) (failures old) (failures new) result
 
 -- no device call of it fails: it never fails, or it fails in a stop alone and no stop was asked for
 abbrev pub IsSure : {D : Type 0} → (D → Bool) → (D → Bool) → (D → Option ℕ) → D → Type 0

@@ -1,4 +1,4 @@
--- What a crash may leave around one call on a disk that was in sync.
+-- Working words of private contracts in the crates above: what a crash may leave around one call on a disk that was in sync.
 use Rattle.std.specs.Prelude.{ℕ, ◌≡◌, ◌+◌, ◌≤◌, max, List, length, take, drop}
 
 -- the old bytes, with any in the range and past the old end

@@ -58,6 +58,10 @@ abbrev pub Rises : Option (List Pair) → Type 0
 Rises None = Unit {0}
 Rises (Some m) = IsTrue (rises m)
 
+abbrev pub IsTold : Option (List Pair) → Type 0
+IsTold None = ⊥
+IsTold (Some m) = Unit {0}
+
 -- where a map is told now, it is the one of before
 abbrev pub Stays : Option (List Pair) → Option (List Pair) → Type 0
 Stays old None = Unit {0}

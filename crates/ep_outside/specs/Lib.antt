@@ -3,6 +3,7 @@ pub mod Disk
 pub mod Images
 pub mod Moments
 pub mod Outside
+pub mod Planned
 pub mod Shelf
 pub mod Drawn
 pub mod Kept

@@ -1,5 +1,5 @@
 -- The outside, by what it holds or has left where it tells, and by its counts of faults.
-use Rattle.std.specs.Prelude.{ℕ, ◌≡◌, ◌+◌, ◌-◌, ◌^◌, ◌<◌, ◌≤◌, max, min, List, [], ◌++◌, length, take, Option, Some, None}
+use Rattle.std.specs.Prelude.{ℕ, ◌≡◌, ◌+◌, ◌-◌, ◌^◌, ◌<◌, ◌≤◌, max, min, Bool, List, [], ◌++◌, length, take, Option, Some, None}
 use Rattle.ep_outside.specs.declared.source.Got.{Got}
 use Rattle.ep_outside.specs.declared.source.Got.TheVariants.{Bytes, End, Failed}
 
@@ -10,6 +10,12 @@ risen n = max n (min (n + 1) (2 ^ 64 - 1))
 -- the count rose, or stands at its greatest number
 abbrev pub HasRisen : ℕ → ℕ → Type 0
 HasRisen before now = risen before ≤ now
+
+-- Of a device's call: its count of faults never falls, the call fails only where the count rose, and the mark of a device that never fails stays.
+pub record HasCause (before now : ℕ) (was is : Bool) (Fails : Type 0) : Type 0 where
+  pub later : before ≤ now
+  pub failed : Fails → HasRisen before now
+  pub steady : is ≡ was
 
 -- what was there is the text and then what is there now
 abbrev pub Gives : Option (List ℕ) → Option (List ℕ) → List ℕ → Type 0

@@ -1,8 +1,9 @@
 //! Disks.
 
 ghost use Rattle.std.specs.Prelude.{◌≡◌, ◌+◌, ◌≤◌, ◌<◌, ◌^◌, ℕ, List, Bool, true, false, length, Option, Some, None, OnOk, OnErr, IfOk};
-ghost use Rattle.ep_outside.specs.Disk.{Contents, Room, HasRoom, Spends, HasCause, HasLength, Reaches, ReadsAt, Writes, Cuts, Syncs, Moves, IsImage, Stops, StopsAlone, ReadsAsLeft, GivesMore};
+ghost use Rattle.ep_outside.specs.Disk.{Contents, Room, HasRoom, Spends, HasLength, Reaches, ReadsAt, Writes, Cuts, Syncs, Moves, IsImage, IsCall, ReadsAsLeft, GivesMore};
 
+use crate::device::Device;
 use crate::source::Failed;
 use ep_units::NoMemory;
 
@@ -10,7 +11,7 @@ use ep_units::NoMemory;
 ///
 /// `length`, `read`, `write_at`, `cut` and `sync` are device calls. `reserve` is none, and no other call
 /// takes memory.
-pub trait Disk {
+pub trait Disk: Device {
     /// What a read gives and what a crash may leave, where it tells.
     ghost told: { Self → Option Contents };
 
@@ -23,12 +24,6 @@ pub trait Disk {
     /// The calls and the bytes for which there is room.
     ghost room: { Self → Room };
 
-    /// How often it has failed.
-    ghost failures: { Self → ℕ };
-
-    /// It tells that it never fails.
-    ghost is_steady: { Self → Bool };
-
     /// How many device calls are left before a stop that was asked for.
     ghost left: { Self → Option ℕ } = { λ _. None };
 
@@ -38,20 +33,13 @@ pub trait Disk {
     /// How many bytes its reads have given, where it counts them; the count stands still at the greatest `u64`.
     ghost bytes_read: { Self → Option ℕ } = { λ _. None };
 
-    /// How often it has failed; the count stands still at the greatest `u64`.
-    fn faults(&self) -> u64
-        ensures { result ≡ failures self.now };
-
     fn length(&mut self) -> Result<u64, Failed>
         ensures value { IfOk result (HasLength (told self.old)) }
         ensures bound { IfOk result (λ n. n < 2 ^ 63) }
         ensures same { told self.new ≡ told self.old }
         ensures room { room self.new ≡ room self.old }
         ensures bytes_read { bytes_read self.new ≡ bytes_read self.old }
-        ensures time { Moves (moment self.old) (moment self.new) (since self.old) (since self.new) (told self.new) }
-        ensures cause { HasCause (failures self.old) (failures self.new) (is_steady self.old) (is_steady self.new) result }
-        ensures stops { Stops (left self.old) (left self.new) result }
-        ensures alone { StopsAlone (stops_alone self.old) (stops_alone self.new) (left self.old) (failures self.old) (failures self.new) result };
+        ensures call { IsCall told moment since Self.failures Self.is_steady Self.plan stops_alone left self.old self.new result };
 
     /// Fills the whole `into` from a place on.
     fn read(&mut self, at: u64, into: &mut [u8]) -> Result<(), Failed>
@@ -60,10 +48,7 @@ pub trait Disk {
         ensures same { told self.new ≡ told self.old }
         ensures room { room self.new ≡ room self.old }
         ensures bytes_read { GivesMore (bytes_read self.old) (bytes_read self.new) (length into.new) result }
-        ensures time { Moves (moment self.old) (moment self.new) (since self.old) (since self.new) (told self.new) }
-        ensures cause { HasCause (failures self.old) (failures self.new) (is_steady self.old) (is_steady self.new) result }
-        ensures stops { Stops (left self.old) (left self.new) result }
-        ensures alone { StopsAlone (stops_alone self.old) (stops_alone self.new) (left self.old) (failures self.old) (failures self.new) result };
+        ensures call { IsCall told moment since Self.failures Self.is_steady Self.plan stops_alone left self.old self.new result };
 
     fn write_at(&mut self, at: u64, bytes: &[u8]) -> Result<(), Failed>
         requires inside { Reaches (told self.old) at }
@@ -71,11 +56,8 @@ pub trait Disk {
         ensures writes { Writes (told self.old) (told self.new) at bytes.now result }
         ensures room { Spends (room self.old) (room self.new) (length bytes.now) }
         ensures bytes_read { bytes_read self.new ≡ bytes_read self.old }
-        ensures time { Moves (moment self.old) (moment self.new) (since self.old) (since self.new) (told self.new) }
-        ensures cause { HasCause (failures self.old) (failures self.new) (is_steady self.old) (is_steady self.new) result }
-        ensures stops { Stops (left self.old) (left self.new) result }
         ensures stopped { left self.old ≡ Some 0 → told self.new ≡ told self.old }
-        ensures alone { StopsAlone (stops_alone self.old) (stops_alone self.new) (left self.old) (failures self.old) (failures self.new) result };
+        ensures call { IsCall told moment since Self.failures Self.is_steady Self.plan stops_alone left self.old self.new result };
 
     fn cut(&mut self, to: u64) -> Result<(), Failed>
         requires inside { Reaches (told self.old) to }
@@ -83,22 +65,16 @@ pub trait Disk {
         ensures cuts { Cuts (told self.old) (told self.new) to result }
         ensures room { Spends (room self.old) (room self.new) 0 }
         ensures bytes_read { bytes_read self.new ≡ bytes_read self.old }
-        ensures time { Moves (moment self.old) (moment self.new) (since self.old) (since self.new) (told self.new) }
-        ensures cause { HasCause (failures self.old) (failures self.new) (is_steady self.old) (is_steady self.new) result }
-        ensures stops { Stops (left self.old) (left self.new) result }
         ensures stopped { left self.old ≡ Some 0 → told self.new ≡ told self.old }
-        ensures alone { StopsAlone (stops_alone self.old) (stops_alone self.new) (left self.old) (failures self.old) (failures self.new) result };
+        ensures call { IsCall told moment since Self.failures Self.is_steady Self.plan stops_alone left self.old self.new result };
 
     fn sync(&mut self) -> Result<(), Failed>
         requires { HasRoom (room self.old) 1 0 }
         ensures syncs { Syncs (told self.old) (told self.new) result }
         ensures room { Spends (room self.old) (room self.new) 0 }
         ensures bytes_read { bytes_read self.new ≡ bytes_read self.old }
-        ensures time { Moves (moment self.old) (moment self.new) (since self.old) (since self.new) (told self.new) }
-        ensures cause { HasCause (failures self.old) (failures self.new) (is_steady self.old) (is_steady self.new) result }
-        ensures stops { Stops (left self.old) (left self.new) result }
         ensures stopped { left self.old ≡ Some 0 → told self.new ≡ told self.old }
-        ensures alone { StopsAlone (stops_alone self.old) (stops_alone self.new) (left self.old) (failures self.old) (failures self.new) result };
+        ensures call { IsCall told moment since Self.failures Self.is_steady Self.plan stops_alone left self.old self.new result };
 
     /// Makes room for four calls of `write_at`, `cut` and `sync` that write so many bytes in all.
     fn reserve(&mut self, bytes: u64) -> Result<(), NoMemory>
@@ -107,8 +83,8 @@ pub trait Disk {
         ensures same { told self.new ≡ told self.old }
         ensures bytes_read { bytes_read self.new ≡ bytes_read self.old }
         ensures time { Moves (moment self.old) (moment self.new) (since self.old) (since self.new) (told self.new) }
-        ensures failures { failures self.new ≡ failures self.old }
-        ensures steady { is_steady self.new ≡ is_steady self.old }
+        ensures failures { Self.failures self.new ≡ Self.failures self.old }
+        ensures steady { Self.is_steady self.new ≡ Self.is_steady self.old }
         ensures stop { left self.new ≡ left self.old }
         ensures alone { stops_alone self.new ≡ stops_alone self.old };
 
@@ -120,6 +96,4 @@ pub trait Disk {
 
     /// A disk as it reads is one of its images.
     ghost reads_as_left: { (d : Self) → ReadsAsLeft (told d) };
-
-    ghost never_fails: { (d : Self) → is_steady d ≡ true → failures d ≡ 0 };
 }

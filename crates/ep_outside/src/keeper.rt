@@ -2,6 +2,7 @@
 
 ghost use Rattle.std.specs.Prelude.{◌≡◌, List};
 
+use crate::device::Device;
 use crate::text::Text;
 use ep_units::NoMemory;
 use std::marker::Model;
@@ -63,52 +64,46 @@ impl Pairs {
     }
 }
 
-/// A map of texts. It may tell the map, and may tell it after one call and not after the next: what a
-/// call says is read back from the map that stands behind it.
-pub trait Keeper {
+/// A map of texts. It may tell the map, and unless it always tells it may do so after one call and not
+/// after the next: what a call says is read back from the map that stands behind it.
+pub trait Keeper: Device {
     ghost use Rattle.std.specs.Prelude.{◌≡◌, ◌≤◌, ℕ, List, Bool, true, Option, IfOk, OnOk, OnErr, IsErrOf};
-    ghost use Rattle.ep_outside.specs.Outside.{HasRisen};
-    ghost use Rattle.ep_outside.specs.Kept.{Gets, Puts, Lists, Stays, Rises};
+    ghost use Rattle.ep_outside.specs.Planned.{Follows};
+    ghost use Rattle.ep_outside.specs.Outside.{HasCause};
+    ghost use Rattle.ep_outside.specs.Kept.{Gets, Puts, Lists, Stays, Rises, IsTold};
     ghost use Rattle.ep_outside.specs.declared.keeper.Pair.{Pair};
 
     /// What it holds, by key in the order of the keys' UTF-8 bytes, where it tells.
     ghost told: { Self → Option (List Pair) };
 
-    /// How often it has failed.
-    ghost failures: { Self → ℕ };
-
-    /// It tells that it never fails.
-    ghost is_steady: { Self → Bool };
-
-    /// How often it has failed; the count stands still at the greatest `u64`.
-    fn faults(&self) -> u64
-        ensures { result ≡ failures self.now };
+    /// It tells its map in each state, also where a call was refused.
+    ghost always_tells: { Self → Bool };
 
     /// What stands under a key.
     fn get(&mut self, key: &str) -> Result<Option<Text>, KeepBad>
         ensures value { IfOk result (λ value. Gets (told self.old) (told self.new) key.now value) }
         ensures err { OnErr result (Stays (told self.old) (told self.new)) }
-        ensures later { failures self.old ≤ failures self.new }
-        ensures cause { IsErrOf result KeepBad.Failed → HasRisen (failures self.old) (failures self.new) }
-        ensures steady { is_steady self.new ≡ is_steady self.old };
+        ensures telling { always_tells self.new ≡ always_tells self.old }
+        ensures cause { HasCause (Self.failures self.old) (Self.failures self.new) (Self.is_steady self.old) (Self.is_steady self.new) (IsErrOf result KeepBad.Failed) }
+        ensures plan { Follows (Self.plan self.old) (Self.plan self.new) (IsErrOf result KeepBad.Failed) };
 
     /// Puts all of them in their order, or none.
     fn put_all(&mut self, puts: &[Put]) -> Result<(), KeepBad>
         ensures ok { OnOk result (Puts (told self.old) (told self.new) puts.now) }
         ensures err { OnErr result (Stays (told self.old) (told self.new)) }
-        ensures later { failures self.old ≤ failures self.new }
-        ensures cause { IsErrOf result KeepBad.Failed → HasRisen (failures self.old) (failures self.new) }
-        ensures steady { is_steady self.new ≡ is_steady self.old };
+        ensures telling { always_tells self.new ≡ always_tells self.old }
+        ensures cause { HasCause (Self.failures self.old) (Self.failures self.new) (Self.is_steady self.old) (Self.is_steady self.new) (IsErrOf result KeepBad.Failed) }
+        ensures plan { Follows (Self.plan self.old) (Self.plan self.new) (IsErrOf result KeepBad.Failed) };
 
     /// The pairs whose keys begin so, in their order.
     fn list_prefix(&mut self, prefix: &str) -> Result<Pairs, KeepBad>
         ensures value { IfOk result (λ pairs. Lists (told self.old) (told self.new) prefix.now pairs) }
         ensures err { OnErr result (Stays (told self.old) (told self.new)) }
-        ensures later { failures self.old ≤ failures self.new }
-        ensures cause { IsErrOf result KeepBad.Failed → HasRisen (failures self.old) (failures self.new) }
-        ensures steady { is_steady self.new ≡ is_steady self.old };
+        ensures telling { always_tells self.new ≡ always_tells self.old }
+        ensures cause { HasCause (Self.failures self.old) (Self.failures self.new) (Self.is_steady self.old) (Self.is_steady self.new) (IsErrOf result KeepBad.Failed) }
+        ensures plan { Follows (Self.plan self.old) (Self.plan self.new) (IsErrOf result KeepBad.Failed) };
 
-    ghost never_fails: { (k : Self) → is_steady k ≡ true → failures k ≡ 0 };
+    ghost tells: { (k : Self) → always_tells k ≡ true → IsTold (told k) };
 
     ghost in_order: { (k : Self) → Rises (told k) };
 }

@@ -8,6 +8,7 @@
 
 mod clock;
 mod crash;
+mod device;
 mod disk;
 mod draws;
 mod image;
@@ -23,6 +24,7 @@ mod text;
 
 pub use clock::Clock;
 pub use crash::Crash;
+pub use device::Device;
 pub use disk::Disk;
 pub use draws::Draws;
 pub use image::Image;

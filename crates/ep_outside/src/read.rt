@@ -1,7 +1,7 @@
 //! Reading a source to its end.
 
 ghost use Rattle.std.specs.Prelude.{◌≡◌, ◌≤◌, ◌<◌, ◌+◌, ◌^◌, length, IfOk, IsErrOf, OnErr};
-ghost use Rattle.ep_outside.specs.Outside.{HasRisen, IsWhole, IsAbove};
+ghost use Rattle.ep_outside.specs.Outside.{HasCause, IsWhole, IsAbove};
 
 use crate::source::{Got, Source};
 use std::alloc::{AllocError, Global};
@@ -36,9 +36,7 @@ pub fn read_all<S: Source>(alloc: Global, source: &mut S, most: usize) -> Result
     ensures whole { IfOk result (λ text. IsWhole (S.left source.old) (S.left source.new) text.items) }
     ensures short { IfOk result (λ text. length text.items ≤ most) }
     ensures long { IsErrOf result ReadBad.TooLong → IsAbove most (S.left source.old) }
-    ensures cause { IsErrOf result ReadBad.Fault → HasRisen (S.failures source.old) (S.failures source.new) }
-    ensures later { S.failures source.old ≤ S.failures source.new }
-    ensures steady { S.is_steady source.new ≡ S.is_steady source.old }
+    ensures cause { HasCause (S.failures source.old) (S.failures source.new) (S.is_steady source.old) (S.is_steady source.new) (IsErrOf result ReadBad.Fault) }
 {
     let mut text = Vec::new(alloc);
     let mut room = [0u8; 4096];
@@ -55,6 +53,7 @@ pub fn read_all<S: Source>(alloc: Global, source: &mut S, most: usize) -> Result
 #[cfg(test)]
 mod tests {
     use super::*;
+    use crate::device::Device;
     use std::test::Fail;
 
     /// A text that gives at most three bytes a read, and then ends or fails.
@@ -65,11 +64,9 @@ mod tests {
         faults: u64,
     }
 
-    impl<'a> Source for Text<'a> {
-        ghost use Rattle.std.specs.Prelude.{Some, false};
+    impl<'a> Device for Text<'a> {
+        ghost use Rattle.std.specs.Prelude.{false};
         ghost use Rattle.std.proofs.Common.{true≢false, sym};
-
-        ghost left = { λ t. Some t.left.now };
 
         ghost failures = { λ t. t.faults };
 
@@ -80,6 +77,12 @@ mod tests {
         fn faults(&self) -> u64 {
             self.faults
         }
+    }
+
+    impl<'a> Source for Text<'a> {
+        ghost use Rattle.std.specs.Prelude.{Some};
+
+        ghost left = { λ t. Some t.left.now };
 
         fn read(&mut self, room: &mut [u8]) -> Got {
             let n = self.left.len().min(room.len()).min(3);

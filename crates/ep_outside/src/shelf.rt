@@ -1,10 +1,12 @@
 //! Shelves of disks.
 
 ghost use Rattle.std.specs.Prelude.{◌≡◌, ◌≢◌, ◌≤◌, ℕ, List, Bool, true, Option, None, length, option_map, IsTrue, IfOk, OnOk, OnErr, IsErrOf};
-ghost use Rattle.ep_outside.specs.Outside.{HasRisen};
+ghost use Rattle.ep_outside.specs.Planned.{Follows};
+ghost use Rattle.ep_outside.specs.Outside.{HasCause};
 ghost use Rattle.ep_outside.specs.Disk.{Contents};
 ghost use Rattle.ep_outside.specs.Shelf.{AreTold, IsNew, Holds, IsEmpty, rises, with_name};
 
+use crate::device::Device;
 use crate::disk::Disk;
 use ep_units::{NoMemory, PadId};
 use thiserror::Error;
@@ -31,7 +33,7 @@ impl From<NoMemory> for ShelfBad {
 /// Disks, each under the id of a pad.
 ///
 /// A shelf tells what the disk of a name holds until that disk is opened; from then on the disk tells.
-pub trait Shelf {
+pub trait Shelf: Device {
     type D: Disk + Drop;
 
     /// The names of its disks, by rising name, where it tells.
@@ -40,25 +42,14 @@ pub trait Shelf {
     /// What the disk of a name holds, where it tells.
     ghost told: { Self → List ℕ → Option Contents };
 
-    /// How often it has failed.
-    ghost failures: { Self → ℕ };
-
-    /// It tells that it never fails.
-    ghost is_steady: { Self → Bool };
-
-    /// How often it has failed; the count stands still at the greatest `u64`.
-    fn faults(&self) -> u64
-        ensures { result ≡ failures self.now };
-
     /// The names of its disks, by rising name.
     fn names(&mut self) -> Result<Vec<PadId>, ShelfBad>
         ensures value { IfOk result (λ found. AreTold (names self.old) found.items) }
         ensures sorted { IfOk result (λ found. IsTrue (rises found.items)) }
         ensures names { names self.new ≡ names self.old }
         ensures told { (name : List ℕ) → told self.new name ≡ told self.old name }
-        ensures later { failures self.old ≤ failures self.new }
-        ensures cause { IsErrOf result ShelfBad.Failed → HasRisen (failures self.old) (failures self.new) }
-        ensures steady { is_steady self.new ≡ is_steady self.old };
+        ensures cause { HasCause (Self.failures self.old) (Self.failures self.new) (Self.is_steady self.old) (Self.is_steady self.new) (IsErrOf result ShelfBad.Failed) }
+        ensures plan { Follows (Self.plan self.old) (Self.plan self.new) (IsErrOf result ShelfBad.Failed) };
 
     /// The disk of a name, which is empty where the name is new.
     fn open(&mut self, name: &PadId) -> Result<Self::D, ShelfBad>
@@ -70,10 +61,7 @@ pub trait Shelf {
         ensures err { OnErr result ((names self.new ≡ names self.old) × (told self.new name.now ≡ told self.old name.now)) }
         ensures no_faults { IfOk result (λ disk. Self.D.failures disk ≡ 0) }
         ensures no_stop { IfOk result (λ disk. Self.D.left disk ≡ None) }
-        ensures disk_steady { IfOk result (λ disk. is_steady self.old ≡ true → Self.D.is_steady disk ≡ true) }
-        ensures later { failures self.old ≤ failures self.new }
-        ensures cause { IsErrOf result ShelfBad.Failed → HasRisen (failures self.old) (failures self.new) }
-        ensures steady { is_steady self.new ≡ is_steady self.old };
-
-    ghost never_fails: { (s : Self) → is_steady s ≡ true → failures s ≡ 0 };
+        ensures disk_steady { IfOk result (λ disk. Self.is_steady self.old ≡ true → Self.D.is_steady disk ≡ true) }
+        ensures cause { HasCause (Self.failures self.old) (Self.failures self.new) (Self.is_steady self.old) (Self.is_steady self.new) (IsErrOf result ShelfBad.Failed) }
+        ensures plan { Follows (Self.plan self.old) (Self.plan self.new) (IsErrOf result ShelfBad.Failed) };
 }

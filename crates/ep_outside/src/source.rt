@@ -1,8 +1,10 @@
 //! Bytes that come in.
 
-ghost use Rattle.std.specs.Prelude.{◌≡◌, ℕ, ◌<◌, ◌≤◌, List, Bool, true, length, Option};
-ghost use Rattle.ep_outside.specs.Outside.{HasRisen, Reads};
+ghost use Rattle.std.specs.Prelude.{◌≡◌, ℕ, ◌<◌, List, length, Option};
+ghost use Rattle.ep_outside.specs.Planned.{Follows};
+ghost use Rattle.ep_outside.specs.Outside.{HasCause, Reads};
 
+use crate::device::Device;
 use thiserror::Error;
 
 /// What a read gave.
@@ -20,27 +22,14 @@ pub enum Got {
 pub struct Failed;
 
 /// Bytes that come in.
-pub trait Source {
+pub trait Source: Device {
     /// The bytes that are left, where it tells.
     ghost left: { Self → Option (List ℕ) };
-
-    /// How often it has failed.
-    ghost failures: { Self → ℕ };
-
-    /// It tells that it never fails.
-    ghost is_steady: { Self → Bool };
-
-    /// How often it has failed; the count stands still at the greatest `u64`.
-    fn faults(&self) -> u64
-        ensures { result ≡ failures self.now };
 
     /// Reads some bytes into the room.
     fn read(&mut self, room: &mut [u8]) -> Got
         requires { 0 < length room.old }
         ensures bytes { Reads (left self.old) (left self.new) result room.new }
-        ensures later { failures self.old ≤ failures self.new }
-        ensures cause { result ≡ Got.Failed → HasRisen (failures self.old) (failures self.new) }
-        ensures steady { is_steady self.new ≡ is_steady self.old };
-
-    ghost never_fails: { (s : Self) → is_steady s ≡ true → failures s ≡ 0 };
+        ensures cause { HasCause (Self.failures self.old) (Self.failures self.new) (Self.is_steady self.old) (Self.is_steady self.new) (result ≡ Got.Failed) }
+        ensures plan { Follows (Self.plan self.old) (Self.plan self.new) (result ≡ Got.Failed) };
 }

@@ -1,43 +1,43 @@
 use Rattle.std.proofs.Common.{◌≡◌, ◌∙◌, ap, arith, sym, rules, true, List, ℕ}
 use Rattle.ep_outside.specs.Disk.{settled}
 use Rattle.ep_outside.proofs.Moments.{started, goes_on, weaker, joined}
-use Rattle.ep_journal.specs.File.{StandsNear, gates_of, end_of}
+use Rattle.ep_journal.specs.File.{IsMending, gates_of, end_of}
 use Rattle.ep_journal.proofs.Counting.{none_read}
 use Rattle.ep_journal.proofs.Repairing.{image_near, long_journal, short_size, mended_records, mended_fresh}
 use Rattle.ep_journal.proofs.opening.find_journal.Goals as goal
 
 pub returns-then-is_err-clause-crash : goal.returns-then-is_err-clause-crash
 returns-then-is_err-clause-crash g c file told =
-    let P = StandsNear file in
+    let P = IsMending file in
     let told_r = c.reserve.ensures.same ∙ told in
     let reserved = goes_on g.D.Disk.moment g.D.Disk.since _ _ _ P _ (started g.D.Disk.moment g.D.Disk.since _ P (λ i left. image_near file _ told i (g.met.D.Disk.only_now _ i left))) c.reserve.ensures.time (image_near file _ told_r) in
     reserved
 
 pub returns-in_err-total-clause-crash : goal.returns-in_err-total-clause-crash
 returns-in_err-total-clause-crash g c file told =
-    let P = StandsNear file in
+    let P = IsMending file in
     let told_r = c.reserve.ensures.same ∙ told in
     let reserved = goes_on g.D.Disk.moment g.D.Disk.since _ _ _ P _ (started g.D.Disk.moment g.D.Disk.since _ P (λ i left. image_near file _ told i (g.met.D.Disk.only_now _ i left))) c.reserve.ensures.time (image_near file _ told_r) in
     let told_l = c.length.ensures.same ∙ told_r in
-    let sized = goes_on g.D.Disk.moment g.D.Disk.since _ _ _ P _ reserved c.length.ensures.time (image_near file _ told_l) in
+    let sized = goes_on g.D.Disk.moment g.D.Disk.since _ _ _ P _ reserved c.length.ensures.call.time (image_near file _ told_l) in
     sized
 
 pub returns-in_err-make_fresh-clause-crash : goal.returns-in_err-make_fresh-clause-crash
 returns-in_err-make_fresh-clause-crash g c file told =
-    let P = StandsNear file in
+    let P = IsMending file in
     let told_r = c.reserve.ensures.same ∙ told in
     let reserved = goes_on g.D.Disk.moment g.D.Disk.since _ _ _ P _ (started g.D.Disk.moment g.D.Disk.since _ P (λ i left. image_near file _ told i (g.met.D.Disk.only_now _ i left))) c.reserve.ensures.time (image_near file _ told_r) in
     let told_l = c.length.ensures.same ∙ told_r in
-    let sized = goes_on g.D.Disk.moment g.D.Disk.since _ _ _ P _ reserved c.length.ensures.time (image_near file _ told_l) in
+    let sized = goes_on g.D.Disk.moment g.D.Disk.since _ _ _ P _ reserved c.length.ensures.call.time (image_near file _ told_l) in
     joined g.D.Disk.moment g.D.Disk.since _ _ _ P sized (c.make_fresh.ensures.crash file (short_size file _ _ told_r c.in_ok-total.ensures.value) told_l)
 
 pub returns-then-total-le9-clause-crash : goal.returns-then-total-le9-clause-crash
 returns-then-total-le9-clause-crash g c file told =
-    let P = StandsNear file in
+    let P = IsMending file in
     let told_r = c.reserve.ensures.same ∙ told in
     let reserved = goes_on g.D.Disk.moment g.D.Disk.since _ _ _ P _ (started g.D.Disk.moment g.D.Disk.since _ P (λ i left. image_near file _ told i (g.met.D.Disk.only_now _ i left))) c.reserve.ensures.time (image_near file _ told_r) in
     let told_l = c.length.ensures.same ∙ told_r in
-    let sized = goes_on g.D.Disk.moment g.D.Disk.since _ _ _ P _ reserved c.length.ensures.time (image_near file _ told_l) in
+    let sized = goes_on g.D.Disk.moment g.D.Disk.since _ _ _ P _ reserved c.length.ensures.call.time (image_near file _ told_l) in
     joined g.D.Disk.moment g.D.Disk.since _ _ _ P sized (c.make_fresh.ensures.crash file (short_size file _ _ told_r c.in_ok-total.ensures.value) told_l)
 
 pub returns-then-total-le9-clause-gates : goal.returns-then-total-le9-clause-gates
@@ -48,33 +48,33 @@ returns-then-total-le9-clause-gates g c file told =
 
 pub returns-in_err-begins_well-clause-crash : goal.returns-in_err-begins_well-clause-crash
 returns-in_err-begins_well-clause-crash g c file told =
-    let P = StandsNear file in
+    let P = IsMending file in
     let told_r = c.reserve.ensures.same ∙ told in
     let reserved = goes_on g.D.Disk.moment g.D.Disk.since _ _ _ P _ (started g.D.Disk.moment g.D.Disk.since _ P (λ i left. image_near file _ told i (g.met.D.Disk.only_now _ i left))) c.reserve.ensures.time (image_near file _ told_r) in
     let told_l = c.length.ensures.same ∙ told_r in
-    let sized = goes_on g.D.Disk.moment g.D.Disk.since _ _ _ P _ reserved c.length.ensures.time (image_near file _ told_l) in
+    let sized = goes_on g.D.Disk.moment g.D.Disk.since _ _ _ P _ reserved c.length.ensures.call.time (image_near file _ told_l) in
     let told_b = c.begins_well.ensures.same ∙ told_l in
     let begun = joined g.D.Disk.moment g.D.Disk.since _ _ _ P sized (weaker g.D.Disk.moment g.D.Disk.since _ _ _ P (image_near file _ told_l) c.begins_well.ensures.images) in
     begun
 
 pub returns-then-not-branch-clause-crash : goal.returns-then-not-branch-clause-crash
 returns-then-not-branch-clause-crash g c file told =
-    let P = StandsNear file in
+    let P = IsMending file in
     let told_r = c.reserve.ensures.same ∙ told in
     let reserved = goes_on g.D.Disk.moment g.D.Disk.since _ _ _ P _ (started g.D.Disk.moment g.D.Disk.since _ P (λ i left. image_near file _ told i (g.met.D.Disk.only_now _ i left))) c.reserve.ensures.time (image_near file _ told_r) in
     let told_l = c.length.ensures.same ∙ told_r in
-    let sized = goes_on g.D.Disk.moment g.D.Disk.since _ _ _ P _ reserved c.length.ensures.time (image_near file _ told_l) in
+    let sized = goes_on g.D.Disk.moment g.D.Disk.since _ _ _ P _ reserved c.length.ensures.call.time (image_near file _ told_l) in
     let told_b = c.begins_well.ensures.same ∙ told_l in
     let begun = joined g.D.Disk.moment g.D.Disk.since _ _ _ P sized (weaker g.D.Disk.moment g.D.Disk.since _ _ _ P (image_near file _ told_l) c.begins_well.ensures.images) in
     begun
 
 pub returns-in_err-mend-clause-crash : goal.returns-in_err-mend-clause-crash
 returns-in_err-mend-clause-crash g c file told =
-    let P = StandsNear file in
+    let P = IsMending file in
     let told_r = c.reserve.ensures.same ∙ told in
     let reserved = goes_on g.D.Disk.moment g.D.Disk.since _ _ _ P _ (started g.D.Disk.moment g.D.Disk.since _ P (λ i left. image_near file _ told i (g.met.D.Disk.only_now _ i left))) c.reserve.ensures.time (image_near file _ told_r) in
     let told_l = c.length.ensures.same ∙ told_r in
-    let sized = goes_on g.D.Disk.moment g.D.Disk.since _ _ _ P _ reserved c.length.ensures.time (image_near file _ told_l) in
+    let sized = goes_on g.D.Disk.moment g.D.Disk.since _ _ _ P _ reserved c.length.ensures.call.time (image_near file _ told_l) in
     let told_b = c.begins_well.ensures.same ∙ told_l in
     let begun = joined g.D.Disk.moment g.D.Disk.since _ _ _ P sized (weaker g.D.Disk.moment g.D.Disk.since _ _ _ P (image_near file _ told_l) c.begins_well.ensures.images) in
     let well : c.in_ok-begins_well.field-0 ≡ true = search rules in
@@ -83,11 +83,11 @@ returns-in_err-mend-clause-crash g c file told =
 
 pub returns-clause-crash : goal.returns-clause-crash
 returns-clause-crash g c file told =
-    let P = StandsNear file in
+    let P = IsMending file in
     let told_r = c.reserve.ensures.same ∙ told in
     let reserved = goes_on g.D.Disk.moment g.D.Disk.since _ _ _ P _ (started g.D.Disk.moment g.D.Disk.since _ P (λ i left. image_near file _ told i (g.met.D.Disk.only_now _ i left))) c.reserve.ensures.time (image_near file _ told_r) in
     let told_l = c.length.ensures.same ∙ told_r in
-    let sized = goes_on g.D.Disk.moment g.D.Disk.since _ _ _ P _ reserved c.length.ensures.time (image_near file _ told_l) in
+    let sized = goes_on g.D.Disk.moment g.D.Disk.since _ _ _ P _ reserved c.length.ensures.call.time (image_near file _ told_l) in
     let told_b = c.begins_well.ensures.same ∙ told_l in
     let begun = joined g.D.Disk.moment g.D.Disk.since _ _ _ P sized (weaker g.D.Disk.moment g.D.Disk.since _ _ _ P (image_near file _ told_l) c.begins_well.ensures.images) in
     let well : c.in_ok-begins_well.field-0 ≡ true = search rules in

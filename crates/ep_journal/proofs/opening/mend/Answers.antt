@@ -1,34 +1,34 @@
 use Rattle.std.proofs.Common.{◌∙◌, arith}
 use Rattle.ep_outside.specs.Disk.{settled}
 use Rattle.ep_outside.proofs.Moments.{weaker, joined}
-use Rattle.ep_journal.specs.File.{StandsNear}
+use Rattle.ep_journal.specs.File.{IsMending}
 use Rattle.ep_journal.proofs.Repairing.{image_near, closing}
 use Rattle.ep_journal.proofs.opening.mend.Goals as goal
 
 pub returns-in_err-found-clause-crash : goal.returns-in_err-found-clause-crash
 returns-in_err-found-clause-crash g c file j told =
-    weaker g.D.Disk.moment g.D.Disk.since _ _ _ (StandsNear file) (image_near file _ told) c.find_gates.ensures.images
+    weaker g.D.Disk.moment g.D.Disk.since _ _ _ (IsMending file) (image_near file _ told) c.find_gates.ensures.images
 
 pub returns-in_err-close_gate-clause-crash : goal.returns-in_err-close_gate-clause-crash
 returns-in_err-close_gate-clause-crash g c file j told =
     let cl = closing file c.args.total _ _ _ j told c.in_ok-found.ensures.found in
-    let found = weaker g.D.Disk.moment g.D.Disk.since _ _ _ (StandsNear file) (image_near file _ told) c.find_gates.ensures.images in
-    let closed = joined g.D.Disk.moment g.D.Disk.since _ _ _ (StandsNear file) found (c.close_gate.ensures.crash file cl (c.find_gates.ensures.same ∙ told)) in
+    let found = weaker g.D.Disk.moment g.D.Disk.since _ _ _ (IsMending file) (image_near file _ told) c.find_gates.ensures.images in
+    let closed = joined g.D.Disk.moment g.D.Disk.since _ _ _ (IsMending file) found (c.close_gate.ensures.crash file cl (c.find_gates.ensures.same ∙ told)) in
     closed
 
 pub returns-in_err-cut_rest-clause-crash : goal.returns-in_err-cut_rest-clause-crash
 returns-in_err-cut_rest-clause-crash g c file j told =
     let cl = closing file c.args.total _ _ _ j told c.in_ok-found.ensures.found in
-    let found = weaker g.D.Disk.moment g.D.Disk.since _ _ _ (StandsNear file) (image_near file _ told) c.find_gates.ensures.images in
-    let closed = joined g.D.Disk.moment g.D.Disk.since _ _ _ (StandsNear file) found (c.close_gate.ensures.crash file cl (c.find_gates.ensures.same ∙ told)) in
-    joined g.D.Disk.moment g.D.Disk.since _ _ _ (StandsNear file) closed (c.cut_rest.ensures.crash file cl j.total_is (c.in_ok-close_gate.ensures.done file cl (c.find_gates.ensures.same ∙ told)))
+    let found = weaker g.D.Disk.moment g.D.Disk.since _ _ _ (IsMending file) (image_near file _ told) c.find_gates.ensures.images in
+    let closed = joined g.D.Disk.moment g.D.Disk.since _ _ _ (IsMending file) found (c.close_gate.ensures.crash file cl (c.find_gates.ensures.same ∙ told)) in
+    joined g.D.Disk.moment g.D.Disk.since _ _ _ (IsMending file) closed (c.cut_rest.ensures.crash file cl j.total_is (c.in_ok-close_gate.ensures.done file cl (c.find_gates.ensures.same ∙ told)))
 
 pub returns-clause-crash : goal.returns-clause-crash
 returns-clause-crash g c file j told =
     let cl = closing file c.args.total _ _ _ j told c.in_ok-found.ensures.found in
-    let found = weaker g.D.Disk.moment g.D.Disk.since _ _ _ (StandsNear file) (image_near file _ told) c.find_gates.ensures.images in
-    let closed = joined g.D.Disk.moment g.D.Disk.since _ _ _ (StandsNear file) found (c.close_gate.ensures.crash file cl (c.find_gates.ensures.same ∙ told)) in
-    joined g.D.Disk.moment g.D.Disk.since _ _ _ (StandsNear file) closed (c.cut_rest.ensures.crash file cl j.total_is (c.in_ok-close_gate.ensures.done file cl (c.find_gates.ensures.same ∙ told)))
+    let found = weaker g.D.Disk.moment g.D.Disk.since _ _ _ (IsMending file) (image_near file _ told) c.find_gates.ensures.images in
+    let closed = joined g.D.Disk.moment g.D.Disk.since _ _ _ (IsMending file) found (c.close_gate.ensures.crash file cl (c.find_gates.ensures.same ∙ told)) in
+    joined g.D.Disk.moment g.D.Disk.since _ _ _ (IsMending file) closed (c.cut_rest.ensures.crash file cl j.total_is (c.in_ok-close_gate.ensures.done file cl (c.find_gates.ensures.same ∙ told)))
 
 pub returns-in_err-found-clause-reads_of_file : goal.returns-in_err-found-clause-reads_of_file
 returns-in_err-found-clause-reads_of_file g c file j told = omega (arith, c.find_gates.ensures.reads_of_file (settled file) told j.total_is)

@@ -12,8 +12,8 @@ returns-clause-crash g c s told inside =
     goes_on disk.moment disk.since old c.cut.new.self c.sync.new.self P _
     (goes_on disk.moment disk.since old old c.cut.new.self P _
     (started disk.moment disk.since old P (λ i left. whole_front _ s i inside (only_told s i _ told (g.met.D.Disk.only_now old i left))))
-    c.cut.ensures.time clipped)
-    c.sync.ensures.time (λ i image. clipped i (sync_images _ _ _ (g.met.D.Disk.reads_as_left c.cut.new.self) c.sync.ensures.syncs i image))
+    c.cut.ensures.call.time clipped)
+    c.sync.ensures.call.time (λ i image. clipped i (sync_images _ _ _ (g.met.D.Disk.reads_as_left c.cut.new.self) c.sync.ensures.syncs i image))
 
 pub returns-in_err-cut-clause-tells : goal.returns-in_err-cut-clause-tells
 returns-in_err-cut-clause-tells g c told = cut_tells _ _ _ _ told c.cut.ensures.cuts
@@ -28,4 +28,4 @@ returns-in_err-cut-clause-crash g c s told inside =
     let P = Front c.args.to s in
     goes_on disk.moment disk.since old old c.cut.new.self P _
     (started disk.moment disk.since old P (λ i left. whole_front _ s i inside (only_told s i _ told (g.met.D.Disk.only_now old i left))))
-    c.cut.ensures.time (after_cut s _ _ _ _ inside told c.cut.ensures.cuts)
+    c.cut.ensures.call.time (after_cut s _ _ _ _ inside told c.cut.ensures.cuts)

@@ -13,7 +13,7 @@ returns-in_err-write_at-clause-crash g c s told inside =
     let P = Torn c.args.at (length c.args.bytes.now) s in
     goes_on disk.moment disk.since old old c.write_at.new.self P _
     (started disk.moment disk.since old P (λ i left. untorn _ _ s i (only_told s i _ told (g.met.D.Disk.only_now old i left))))
-    c.write_at.ensures.time (after_write s _ _ _ _ _ inside told c.write_at.ensures.writes)
+    c.write_at.ensures.call.time (after_write s _ _ _ _ _ inside told c.write_at.ensures.writes)
 
 pub returns-clause-crash : goal.returns-clause-crash
 returns-clause-crash g c s told inside =
@@ -24,8 +24,8 @@ returns-clause-crash g c s told inside =
     goes_on disk.moment disk.since old c.write_at.new.self c.sync.new.self P _
     (goes_on disk.moment disk.since old old c.write_at.new.self P _
     (started disk.moment disk.since old P (λ i left. untorn _ _ s i (only_told s i _ told (g.met.D.Disk.only_now old i left))))
-    c.write_at.ensures.time wrote)
-    c.sync.ensures.time (λ i image. wrote i (sync_images _ _ _ (g.met.D.Disk.reads_as_left c.write_at.new.self) c.sync.ensures.syncs i image))
+    c.write_at.ensures.call.time wrote)
+    c.sync.ensures.call.time (λ i image. wrote i (sync_images _ _ _ (g.met.D.Disk.reads_as_left c.write_at.new.self) c.sync.ensures.syncs i image))
 
 pub returns-in_err-write_at-clause-tells : goal.returns-in_err-write_at-clause-tells
 returns-in_err-write_at-clause-tells g c told = wrote_tells _ _ _ _ _ told c.write_at.ensures.writes
@@ -36,16 +36,16 @@ returns-clause-tells g c told = sync_tells _ _ _ (wrote_tells _ _ _ _ _ told c.w
 pub returns-clause-stopped_early : goal.returns-clause-stopped_early
 returns-clause-stopped_early g c k few is =
     let ok : IsOk c.write_at.result = search rules in
-    stops_within_two _ _ _ c.write_at.result c.sync.result k few is c.write_at.ensures.stops ok c.sync.ensures.stops
+    stops_within_two _ _ _ c.write_at.result c.sync.result k few is c.write_at.ensures.call.stops ok c.sync.ensures.call.stops
 
 pub returns-clause-stopped_between : goal.returns-clause-stopped_between
 returns-clause-stopped_between g c s alone is told =
-    c.sync.ensures.stopped (one_less _ _ c.write_at.result 0 is c.write_at.ensures.stops) ∙ wrote_seen s _ _ _ _ _ told c.in_ok-write_at.ensures.writes
+    c.sync.ensures.stopped (one_less _ _ c.write_at.result 0 is c.write_at.ensures.call.stops) ∙ wrote_seen s _ _ _ _ _ told c.in_ok-write_at.ensures.writes
 
 pub returns-clause-counts : goal.returns-clause-counts
-returns-clause-counts g c k is = OnOk-of c.sync.result _ (two_less _ _ _ c.write_at.result c.sync.result k is c.write_at.ensures.stops c.sync.ensures.stops)
+returns-clause-counts g c k is = OnOk-of c.sync.result _ (two_less _ _ _ c.write_at.result c.sync.result k is c.write_at.ensures.call.stops c.sync.ensures.call.stops)
 
 pub returns-clause-goes_through : goal.returns-clause-goes_through
 returns-clause-goes_through g c k alone is =
     let more : k + 2 ≡ k + 1 + 1 = omega arith in
-    goes_through _ _ _ _ _ c.sync.result k (c.write_at.ensures.alone.same ∙ alone) (one_less _ _ c.write_at.result (k + 1) (is ∙ ap (λ (n : ℕ). Some n) more) c.write_at.ensures.stops) c.sync.ensures.alone
+    goes_through _ _ _ _ _ c.sync.result k (c.write_at.ensures.call.alone.same ∙ alone) (one_less _ _ c.write_at.result (k + 1) (is ∙ ap (λ (n : ℕ). Some n) more) c.write_at.ensures.call.stops) c.sync.ensures.call.alone

@@ -10,8 +10,8 @@ invariant-loop-gates g l = let disk = g.D.Disk in record {
   same : disk.told l.disk ≡ disk.told l.fn.disk;
   room : disk.room l.disk ≡ disk.room l.fn.disk;
   images : LeavesOnly disk.moment disk.since l.fn.disk l.disk (IsImage (disk.told l.fn.disk));
-  marks : KeepsMarks disk.is_steady disk.stops_alone disk.left l.fn.disk l.disk;
-  later : disk.failures l.fn.disk ≤ disk.failures l.disk;
+  marks : KeepsMarks g.D.Device.is_steady disk.stops_alone disk.left l.fn.disk l.disk;
+  later : g.D.Device.failures l.fn.disk ≤ g.D.Device.failures l.disk;
   walks : Walks (disk.told l.fn.disk) l.total l.gates.items l.gate;
   spaced : AreSpaced l.gates.items l.gate;
   first : 8 ≤ l.gate;

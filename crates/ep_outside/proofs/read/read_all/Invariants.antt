@@ -5,8 +5,8 @@ use Rattle.ep_outside.proofs.read.read_all.Given as goal
 abbrev pub invariant-loop-room : goal.invariant-loop-room
 invariant-loop-room g l = record {
   read : Gives (g.S.Source.left l.initial.source) (g.S.Source.left l.source) l.text.items;
-  later : g.S.Source.failures l.initial.source ≤ g.S.Source.failures l.source;
-  steady : g.S.Source.is_steady l.source ≡ g.S.Source.is_steady l.initial.source;
+  later : g.S.Device.failures l.initial.source ≤ g.S.Device.failures l.source;
+  steady : g.S.Device.is_steady l.source ≡ g.S.Device.is_steady l.initial.source;
 }
 
 abbrev pub decreases-loop-room : goal.decreases-loop-room

@@ -1,4 +1,4 @@
-use Rattle.std.proofs.Common.{◌+◌, ◌-◌, sym, subst, arith}
+use Rattle.std.proofs.Common.{◌+◌, ◌-◌, sym, subst, arith, rules}
 use Rattle.ep_outside.specs.Disk.{Contents, MayLeave}
 use Rattle.ep_outside.proofs.Images.{cut_image}
 use Rattle.ep_disk_mem.specs.Held.{contents_of}
@@ -14,5 +14,11 @@ invariant_of-self-2 c =
       sound = subst (λ (k : Contents). MayLeave k k.seen) (sym c.cut.ensures.contents) (cut_image (contents_of c.args.self.now.held) c.args.to c.requires.inside c.args.self.now.sound);
     }
 
-pub returns-clause-time : goal.returns-clause-time
-returns-clause-time c = moves_to c.args.self.now.past.items c.push_reserved.new.self.items c.of-was.result c.args.self.now.held c.cut.new.self c.of-was.ensures c.push_reserved.ensures.items
+pub returns-clause-call : goal.returns-clause-call
+returns-clause-call c = record {
+  time = moves_to c.args.self.now.past.items c.push_reserved.new.self.items c.of-was.result c.args.self.now.held c.cut.new.self c.of-was.ensures c.push_reserved.ensures.items;
+  cause = search rules;
+  planned = search rules;
+  stops = search rules;
+  alone = search rules;
+}

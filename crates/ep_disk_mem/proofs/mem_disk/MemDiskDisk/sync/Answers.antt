@@ -1,4 +1,4 @@
-use Rattle.std.proofs.Common.{◌+◌, ◌-◌, sym, subst, arith}
+use Rattle.std.proofs.Common.{◌+◌, ◌-◌, sym, subst, arith, rules}
 use Rattle.ep_outside.specs.Disk.{Contents, MayLeave}
 use Rattle.ep_outside.proofs.Images.{seen_image}
 use Rattle.ep_disk_mem.proofs.Kept.{moves_to, room_at}
@@ -13,5 +13,11 @@ invariant_of-self-2 c =
       sound = subst (λ (k : Contents). MayLeave k k.seen) (sym c.sync.ensures.contents) (seen_image c.args.self.now.held.bytes.items);
     }
 
-pub returns-clause-time : goal.returns-clause-time
-returns-clause-time c = moves_to c.args.self.now.past.items c.push_reserved.new.self.items c.of-was.result c.args.self.now.held c.sync.new.self c.of-was.ensures c.push_reserved.ensures.items
+pub returns-clause-call : goal.returns-clause-call
+returns-clause-call c = record {
+  time = moves_to c.args.self.now.past.items c.push_reserved.new.self.items c.of-was.result c.args.self.now.held c.sync.new.self c.of-was.ensures c.push_reserved.ensures.items;
+  cause = search rules;
+  planned = search rules;
+  stops = search rules;
+  alone = search rules;
+}

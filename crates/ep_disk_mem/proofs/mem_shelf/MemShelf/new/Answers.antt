@@ -1,6 +1,6 @@
 use Rattle.std.proofs.Common.{◌≡◌, ◌∙◌, ◌==◌, ◌&&◌, ℕ, List, ap, sym, true, length}
 use Rattle.ep_outside.proofs.Rising.{and_left, and_right}
-use Rattle.ep_disk_mem.specs.Slots.{are_sure}
+use Rattle.ep_disk_mem.specs.Files.{are_sure}
 use Rattle.ep_disk_mem.proofs.mem_shelf.MemShelf.new.Goals as goal
 
 pub invariant_of-result-clause-sure : goal.invariant_of-result-clause-sure

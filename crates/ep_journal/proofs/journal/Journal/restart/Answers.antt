@@ -2,7 +2,7 @@ use Rattle.std.proofs.Common.{◌∙◌, inl, inr, ⊎_elim, ℕ, List, subst}
 use Rattle.ep_outside.specs.Disk.{IsImage, settled}
 use Rattle.ep_outside.proofs.Images.{only_told}
 use Rattle.ep_outside.proofs.Moments.{started, goes_on}
-use Rattle.ep_journal.specs.File.{StandsNear}
+use Rattle.ep_journal.specs.File.{IsMending}
 use Rattle.ep_journal.specs.Held.{IsForeign}
 use Rattle.ep_journal.specs.Journal.{IsImageOr}
 use Rattle.ep_journal.proofs.Restarting.{opens_after}
@@ -37,5 +37,5 @@ returns-clause-crash g c k told =
     let start = goes_on disk.moment disk.since old old c.restart.new.self P _ (started disk.moment disk.since old P (λ i left. inl (g.met.D.Disk.only_now old i left))) c.restart.ensures.time or_image in (
       r.0,
       r.1,
-      opens_after disk.moment disk.since old c.restart.new.self c.reopen.new.self.disk (IsImage (disk.told c.restart.new.self)) P (StandsNear r.0) start or_image c.reopen.result (c.reopen.ensures.crash (settled r.0) r.2),
+      opens_after disk.moment disk.since old c.restart.new.self c.reopen.new.self.disk (IsImage (disk.told c.restart.new.self)) P (IsMending r.0) start or_image c.reopen.result (c.reopen.ensures.crash (settled r.0) r.2),
     )
