@@ -1,3 +1,6 @@
 pub mod Ids
 pub mod Keys
 pub mod Values
+pub mod Answers
+pub mod Faults
+pub mod Readings

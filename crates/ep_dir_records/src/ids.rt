@@ -8,8 +8,13 @@ ghost use Rattle.ep_dir_records.specs.Ids.{id_of, letter, six_digits};
 use ep_units::{NoMemory, Units};
 use std::alloc::Global;
 
-/// How many ids there are: six digits of base 36.
+/// How many ids there are: as many as six digits of base 36 tell apart.
 pub const MOST_IDS: u64 = 2_176_782_336;
+
+const BASE: u64 = 36;
+
+// Between a kind's letter and the draws.
+const DOT: u16 = b'.' as u16;
 
 /// What an id is of.
 #[derive(Clone, Copy, Debug, PartialEq, Eq)]
@@ -46,29 +51,32 @@ fn digit(d: u64) -> u16
     requires { d < 36 }
     ensures { result ≡ digit d }
 {
-    if d < 10 { 48 + d as u16 } else { 87 + d as u16 }
+    if d < 10 {
+        b'0' as u16 + d as u16
+    } else {
+        b'a' as u16 + (d - 10) as u16
+    }
 }
 
 fn push_drawn(id: &mut Units, drawn: &Drawn) -> Result<(), NoMemory>
     ensures { OnOk result (id.new ≡ id.old ++ map digit drawn.now.digits) }
 {
-    let mut i = 0;
-    while i < 10 {
-        id.push(digit(drawn.digits[i] as u64))?;
-        i += 1;
+    for drawn_digit in drawn.digits.as_slice() {
+        id.push(digit(*drawn_digit as u64))?;
     }
     Ok(())
 }
 
+// The count in six digits of base 36, from the fifth power down.
 fn push_count(id: &mut Units, n: u64) -> Result<(), NoMemory>
     ensures { OnOk result (id.new ≡ id.old ++ six_digits n) }
 {
-    id.push(digit(n / 60_466_176 % 36))?;
-    id.push(digit(n / 1_679_616 % 36))?;
-    id.push(digit(n / 46_656 % 36))?;
-    id.push(digit(n / 1_296 % 36))?;
-    id.push(digit(n / 36 % 36))?;
-    id.push(digit(n % 36))
+    id.push(digit(n / 60_466_176 % BASE))?;
+    id.push(digit(n / 1_679_616 % BASE))?;
+    id.push(digit(n / 46_656 % BASE))?;
+    id.push(digit(n / 1_296 % BASE))?;
+    id.push(digit(n / BASE % BASE))?;
+    id.push(digit(n % BASE))
 }
 
 /// The id of this kind by ten draws and the count of ids given before it.
@@ -77,7 +85,7 @@ pub fn new_id(alloc: Global, kind: IdKind, drawn: &Drawn, n: u64) -> Result<Unit
 {
     let mut id = Units::new(alloc);
     id.push(kind.letter() as u16)?;
-    id.push(46)?;
+    id.push(DOT)?;
     push_drawn(&mut id, drawn)?;
     push_count(&mut id, n)?;
     Ok(id)

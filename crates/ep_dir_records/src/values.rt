@@ -1,15 +1,19 @@
 //! What stands under each kind of key.
 
-ghost use Rattle.std.specs.Prelude.{◌≡◌, IfOk, MatchOption, is_some};
+ghost use Rattle.std.specs.Prelude.{◌≡◌, ◌<◌, ◌^◌, IfOk, IsTrue, MatchOption, SomeIff, is_some};
 ghost use Rattle.std.specs.Fmt.{decimal};
 ghost use Rattle.ep_units.specs.Utf8.{units_of};
-ghost use Rattle.ep_dir_records.specs.Ids.{letter};
-ghost use Rattle.ep_dir_records.specs.Values.{all_alphanumeric, count_in, cut_at_space, empty_in, id_in, info_behind, info_by, is_id, number_from, number_in, pad_in, session_in, session_text};
+ghost use Rattle.std.specs.Char.{is_ascii_alphanumeric, is_ascii_digit};
+ghost use Rattle.std.specs.List.{list_all};
+ghost use Rattle.ep_dir_records.specs.Values.{count_in, cut_at_space, empty_in, id_in, is_id, number_from, number_in, pad_in, session_in, session_text, with_digit};
 
 use crate::ids::{IdKind, MOST_IDS};
 use ep_outside::Text;
 use ep_units::{NoMemory, PadId, Units};
 use std::alloc::Global;
+
+// A letter, a dot, ten draws and a count in six digits.
+const ID_BYTES: usize = 18;
 
 /// What a session of a group stands for: its author may enter the pads of its group until then.
 #[derive(Drop)]
@@ -39,20 +43,22 @@ fn read_number(digits: &[u8]) -> Option<u64>
     ensures { result ≡ number_from 0 digits.now }
 {
     let mut n: u64 = 0;
-    let mut at = 0;
-    while at < digits.len() {
-        let b = digits[at];
-        if b < 48 || b >= 58 {
+    for digit in digits {
+        if !digit.is_ascii_digit() {
             return None;
         }
-        let d = (b - 48) as u64;
-        if n > (u64::MAX - d) / 10 {
-            return None;
-        }
-        n = 10 * n + d;
-        at += 1;
+        n = with_digit(n, *digit)?;
     }
     Some(n)
+}
+
+// The number with one more digit behind it, `None` where it is too great.
+fn with_digit(n: u64, digit: u8) -> Option<u64>
+    requires { IsTrue (is_ascii_digit digit) }
+    ensures { SomeIff result (with_digit n digit < 2 ^ 64) (with_digit n digit) }
+{
+    let tens = n.checked_mul(10)?;
+    tens.checked_add((digit - b'0') as u64)
 }
 
 fn number_in(alloc: Global, text: &str) -> Result<Option<u64>, NoMemory>
@@ -74,31 +80,24 @@ pub fn count_in(alloc: Global, value: &str) -> Result<Option<u64>, NoMemory>
     ensures { IfOk result (λ n. n ≡ count_in value.now) }
 {
     match number_in(alloc, value)? {
-        Some(n) => { if n <= MOST_IDS { Ok(Some(n)) } else { Ok(None) } }
-        None => Ok(None),
+        Some(n) if n <= MOST_IDS => Ok(Some(n)),
+        _ => Ok(None),
     }
 }
 
 fn are_alphanumeric(text: &[u8]) -> bool
-    ensures { result ≡ all_alphanumeric text.now }
+    ensures { result ≡ list_all is_ascii_alphanumeric text.now }
 {
-    let mut at = 0;
-    while at < text.len() {
-        if !text[at].is_ascii_alphanumeric() {
-            return false;
-        }
-        at += 1;
-    }
-    true
+    text.iter().all(|byte| byte.is_ascii_alphanumeric())
 }
 
 fn is_id(kind: IdKind, text: &str) -> bool
-    ensures { result ≡ is_id (letter kind) text.now }
+    ensures { result ≡ is_id kind text.now }
 {
     let bytes = text.as_bytes();
-    bytes.len() == 18
+    bytes.len() == ID_BYTES
         && bytes[0] == kind.letter()
-        && bytes[1] == 46
+        && bytes[1] == b'.'
         && are_alphanumeric(&bytes[2..])
 }
 
@@ -134,16 +133,17 @@ fn cut_at_space(text: &str) -> Option<(&str, &str)>
     text.split_once(' ')
 }
 
-fn info_by(
-    alloc: Global,
-    id: &Units,
-    group: &str,
-    author: &str,
-    until: Option<u64>,
-) -> Result<Option<SessionInfo>, NoMemory>
-    ensures { IfOk result (λ info. info ≡ info_by id.now group.now author.now until) }
+/// The session with this id.
+pub fn session_in(alloc: Global, id: &Units, value: &str) -> Result<Option<SessionInfo>, NoMemory>
+    ensures { IfOk result (λ info. info ≡ session_in id.now value.now) }
 {
-    let Some(valid_until) = until else {
+    let Some((group, rest)) = cut_at_space(value) else {
+        return Ok(None);
+    };
+    let Some((author, until)) = cut_at_space(rest) else {
+        return Ok(None);
+    };
+    let Some(valid_until) = number_in(alloc, until)? else {
         return Ok(None);
     };
     if !is_id(IdKind::Group, group) || !is_id(IdKind::Author, author) {
@@ -155,30 +155,6 @@ fn info_by(
         author: Units::from_str(alloc, author)?,
         valid_until,
     }))
-}
-
-fn info_behind(
-    alloc: Global,
-    id: &Units,
-    group: &str,
-    rest: &str,
-) -> Result<Option<SessionInfo>, NoMemory>
-    ensures { IfOk result (λ info. info ≡ info_behind id.now group.now (cut_at_space rest.now)) }
-{
-    match cut_at_space(rest) {
-        Some((author, until)) => info_by(alloc, id, group, author, number_in(alloc, until)?),
-        None => Ok(None),
-    }
-}
-
-/// The session with this id.
-pub fn session_in(alloc: Global, id: &Units, value: &str) -> Result<Option<SessionInfo>, NoMemory>
-    ensures { IfOk result (λ info. info ≡ session_in id.now value.now) }
-{
-    match cut_at_space(value) {
-        Some((group, rest)) => info_behind(alloc, id, group, rest),
-        None => Ok(None),
-    }
 }
 
 /// The value of a session: its group, author and end with single spaces between them.

@@ -9,6 +9,7 @@
 #![tactic(auto)]
 
 mod failing;
+mod laws;
 mod lines;
 mod played;
 mod shown;

@@ -1,2 +1,9 @@
 pub mod Histories
 pub mod Members
+pub mod Texts
+pub mod Pairs
+pub mod Fine
+pub mod Found
+pub mod Plans
+pub mod Steps
+pub mod Legal

@@ -1,8 +1,9 @@
 //! The directory.
 
-ghost use Rattle.std.specs.Prelude.{◌≡◌};
+ghost use Rattle.std.specs.Prelude.{◌≡◌, []};
+ghost use Rattle.ep_groups.specs.History.{Stands};
 
-use ep_dir_reads::Records;
+use ep_dir_records::Records;
 use ep_outside::Keeper;
 use std::alloc::Global;
 use std::marker::Model;
@@ -15,7 +16,7 @@ pub struct DirMachine<K: Keeper> {
 }
 
 impl<K: Keeper> Model for DirMachine<K> {
-    ghost use Rattle.ep_dir_reads.specs.Answers.{Seen};
+    ghost use Rattle.ep_dir_records.specs.Answers.{Seen};
 
     ghost Value = { Seen };
 
@@ -23,13 +24,13 @@ impl<K: Keeper> Model for DirMachine<K> {
 }
 
 impl<K: Keeper> DirMachine<K> {
-    /// The directory that stands in this keeper.
+    /// The directory that stands in this keeper. No call is made yet.
     pub fn new(alloc: Global, keeper: K) -> DirMachine<K>
-        ensures { result ≡ record { told = K.told keeper; failures = K.failures keeper; is_steady = K.is_steady keeper } }
+        ensures seen { result ≡ record { told = K.told keeper; always_tells = K.always_tells keeper; failures = K.failures keeper; is_steady = K.is_steady keeper } }
+        ensures begun { Stands K.always_tells result [] }
     {
-        DirMachine {
-            records: Records::new(alloc, keeper),
-            alloc,
-        }
+        let records = Records::new(alloc, keeper);
+        records.tells();
+        DirMachine { records, alloc }
     }
 }

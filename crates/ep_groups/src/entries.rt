@@ -2,13 +2,12 @@
 
 ghost use Rattle.std.specs.Prelude.{◌≡◌, List, [], ◌∷◌, ◌++◌};
 ghost use Rattle.ep_groups.specs.History.{Step};
-ghost use Rattle.ep_dir_reads.specs.Answers.{Answers};
+ghost use Rattle.ep_dir_records.specs.Answers.{Answers};
 ghost use Rattle.ep_groups.specs.Directory.{create_session};
 ghost use Rattle.ep_groups.specs.Policy.{grant};
 
 use crate::dir_machine::DirMachine;
-use ep_dir_reads::DirBad;
-use ep_dir_records::{Drawn, Listed, SessionInfo};
+use ep_dir_records::{DirBad, Drawn, Listed, SessionInfo};
 use ep_outside::{Keeper, Machine};
 use ep_units::{Grant, PadId, Units};
 
@@ -135,13 +134,15 @@ impl<K: Keeper + Drop> Machine for DirMachine<K> {
 
     ghost allows = { λ _. Unit {0} };
 
-    ghost stands = { λ m h. Stands m h };
+    ghost stands = { λ m h. Stands K.always_tells m h };
 
-    ghost legal = { IsLegal };
+    ghost legal = { IsLegal K.always_tells };
 
-    ghost stands_legal = { λ m h s. (s.0, (m, s.1)) };
+    ghost stands_legal = { λ m h s. (m, s) };
 
     fn call(&mut self, entry: DirEntry) -> DirReply {
-        self.answer(&entry)
+        let reply = self.answer(&entry);
+        self.records.tells();
+        reply
     }
 }

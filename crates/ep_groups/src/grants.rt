@@ -7,53 +7,33 @@ ghost use Rattle.ep_units.specs.Text.{text_eq};
 ghost use Rattle.ep_dir_records.specs.Keys.{count_put, key};
 ghost use Rattle.ep_dir_records.specs.Values.{pad_in, own};
 ghost use Rattle.ep_dir_records.specs.declared.ids.IdKind.TheVariants as id;
-ghost use Rattle.ep_dir_reads.specs.Answers.{Answers, Reads, on_ok};
+ghost use Rattle.ep_dir_records.specs.Answers.{Answers, Reads};
 ghost use Rattle.ep_groups.specs.Directory.{made, old_or};
-ghost use Rattle.ep_groups.specs.Policy.{DecidesMember, grant, granted, is_member, is_read_only_id, member, member_of, own_pad, pad_asked, pad_behind, token_author, token_put};
-ghost use Rattle.ep_dir_reads.specs.Readings.{needed, there};
-ghost use Rattle.ep_dir_reads.specs.declared.dir_bad.DirBad.TheVariants.{Denied};
+ghost use Rattle.ep_groups.specs.Members.{DecidesMember};
+ghost use Rattle.ep_groups.specs.Policy.{grant, granted, is_member, is_read_only_id, member, member_of, own_pad, pad_asked, pad_behind, token_author, token_put};
+ghost use Rattle.ep_dir_records.specs.Readings.{needed, there};
+ghost use Rattle.ep_dir_records.specs.declared.dir_bad.DirBad.TheVariants.{Denied};
 
 use crate::dir_machine::DirMachine;
-use ep_dir_reads::{DirBad, Records};
-use ep_dir_records::{Drawn, IdKind, Kind, Puts, SessionInfo};
+use ep_dir_records::{DirBad, Drawn, IdKind, Kind, Puts, Records, SessionInfo};
 use ep_outside::Keeper;
 use ep_units::{Grant, NoMemory, PadId, Units};
 use std::alloc::Global;
 
+// How read-only ids begin.
+const READ_ONLY: [u16; 2] = [b'r' as u16, b'.' as u16];
+
 impl<K: Keeper> DirMachine<K> {
-    fn token_made(&self, token: &Units, author: Units, n: u64) -> Result<(Units, Puts), DirBad>
-        ensures { Reads self.now self.now (λ _. Ok (author, count_put n ∷ token_put token.now author)) result }
-    {
-        let puts = token_puts(self.alloc, token, &author, n)?;
-        Ok((author, puts))
-    }
-
-    fn new_token_author(&mut self, token: &Units, drawn: &Drawn) -> Result<(Units, Puts), DirBad>
-        ensures { Reads self.old self.new (made id.Author drawn.now.digits (token_put token.now)) result }
-    {
-        let (author, n) = self.records.new_id(IdKind::Author, drawn)?;
-        self.token_made(token, author, n)
-    }
-
-    fn old_token_author_or(
-        &mut self,
-        old: Option<Units>,
-        token: &Units,
-        drawn: &Drawn,
-    ) -> Result<(Units, Puts), DirBad>
-        ensures { Reads self.old self.new (λ m. old_or old (made id.Author drawn.now.digits (token_put token.now) m)) result }
-    {
-        match old {
-            Some(author) => Ok((author, Puts::new(self.alloc))),
-            None => self.new_token_author(token, drawn),
-        }
-    }
-
     fn token_author(&mut self, token: &Units, drawn: &Drawn) -> Result<(Units, Puts), DirBad>
         ensures { Reads self.old self.new (token_author token.now drawn.now.digits) result }
     {
         let old = self.records.read_id(IdKind::Author, Kind::Token, token)?;
-        self.old_token_author_or(old, token, drawn)
+        if let Some(author) = old {
+            return Ok((author, Puts::new(self.alloc)));
+        }
+        let (author, n) = self.records.new_id(IdKind::Author, drawn)?;
+        let puts = token_puts(self.alloc, token, &author, n)?;
+        Ok((author, puts))
     }
 
     fn member_in(
@@ -70,42 +50,17 @@ impl<K: Keeper> DirMachine<K> {
         }
     }
 
-    fn known_pad(&mut self, asked: &Units) -> Result<PadId, DirBad>
-        ensures { Reads self.old self.new (needed pad_in (key Kind.ReadOnly asked.now) (Denied 2)) result }
-    {
-        let found = self.records.read_pad(asked)?;
-        self.records.needed(found, DirBad::Denied(2))
-    }
-
-    fn pad_behind(&mut self, asked: &Units) -> Result<(PadId, bool), DirBad>
-        ensures { Reads self.old self.new (pad_behind asked.now) result }
-    {
-        let pad = self.known_pad(asked)?;
-        Ok((pad, true))
-    }
-
-    fn valid_pad(&self, asked: &Units) -> Result<PadId, DirBad>
-        ensures { Reads self.now self.now (λ _. there (Denied 1) (own asked.now)) result }
-    {
-        let found = PadId::read(self.alloc, asked)?;
-        self.records.needed(found, DirBad::Denied(1))
-    }
-
-    fn own_pad(&self, asked: &Units) -> Result<(PadId, bool), DirBad>
-        ensures { Reads self.now self.now (λ _. own_pad asked.now) result }
-    {
-        let pad = self.valid_pad(asked)?;
-        Ok((pad, false))
-    }
-
     fn pad_asked(&mut self, asked: &Units) -> Result<(PadId, bool), DirBad>
         ensures { Reads self.old self.new (pad_asked asked.now) result }
     {
         if is_read_only_id(asked.as_slice()) {
-            self.pad_behind(asked)
-        } else {
-            self.own_pad(asked)
+            let found = self.records.read_pad(asked)?;
+            let pad = self.records.needed(found, DirBad::Denied(2))?;
+            return Ok((pad, true));
         }
+        let found = PadId::read(self.alloc, asked)?;
+        let pad = self.records.needed(found, DirBad::Denied(1))?;
+        Ok((pad, false))
     }
 
     fn granted(
@@ -133,37 +88,6 @@ impl<K: Keeper> DirMachine<K> {
         Ok((grant, puts))
     }
 
-    fn granted_by(
-        &mut self,
-        asked: &Units,
-        pad: PadId,
-        read_only: bool,
-        member: Option<Units>,
-        token: &Units,
-        drawn: &Drawn,
-    ) -> Result<(Grant, Puts), DirBad>
-        ensures { Reads self.old self.new (λ m. on_ok (token_author token.now drawn.now.digits m) (λ author. Ok (granted asked.now (pad, read_only) member author.0, author.1))) result }
-    {
-        let (author, puts) = self.token_author(token, drawn)?;
-        self.granted(asked, pad, read_only, member, author, puts)
-    }
-
-    fn granted_on(
-        &mut self,
-        asked: &Units,
-        pad: PadId,
-        read_only: bool,
-        sessions: &[Units],
-        token: &Units,
-        now: u64,
-        drawn: &Drawn,
-    ) -> Result<(Grant, Puts), DirBad>
-        ensures { Reads self.old self.new (λ m. on_ok (member_of (group_of pad) now sessions.now m) (λ found. on_ok (token_author token.now drawn.now.digits m) (λ author. Ok (granted asked.now (pad, read_only) found author.0, author.1)))) result }
-    {
-        let found = self.member_in(&pad, now, sessions)?;
-        self.granted_by(asked, pad, read_only, found, token, drawn)
-    }
-
     fn planned_grant(
         &mut self,
         asked: &Units,
@@ -175,7 +99,9 @@ impl<K: Keeper> DirMachine<K> {
         ensures { Reads self.old self.new (grant asked.now sessions.now token.now now drawn.now.digits) result }
     {
         let (pad, read_only) = self.pad_asked(asked)?;
-        self.granted_on(asked, pad, read_only, sessions, token, now, drawn)
+        let found = self.member_in(&pad, now, sessions)?;
+        let (author, puts) = self.token_author(token, drawn)?;
+        self.granted(asked, pad, read_only, found, author, puts)
     }
 
     /// Leave to enter the pad that an id stands for, at `now` in seconds. The sessions are those that
@@ -241,7 +167,7 @@ fn member_author(group: &[u16], now: u64, info: Option<SessionInfo>) -> Option<U
 fn is_read_only_id(asked: &[u16]) -> bool
     ensures { result ≡ is_read_only_id asked.now }
 {
-    asked.starts_with(&[114, 46])
+    asked.starts_with(&READ_ONLY)
 }
 
 fn token_puts(alloc: Global, token: &Units, author: &Units, n: u64) -> Result<Puts, NoMemory>

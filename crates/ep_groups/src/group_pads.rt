@@ -3,15 +3,14 @@
 ghost use Rattle.std.specs.Prelude.{◌≡◌, ◌∷◌, [], IfOk, Ok};
 ghost use Rattle.ep_units.specs.PadId.{group_of};
 ghost use Rattle.ep_dir_records.specs.Keys.{key, put};
-ghost use Rattle.ep_dir_reads.specs.Answers.{Answers, Reads, on_ok, only};
+ghost use Rattle.ep_dir_records.specs.Answers.{Answers, Reads, only};
 ghost use Rattle.ep_groups.specs.Directory.{add_group_pad, drop_group_pad, dropped, group_pads, listed_pad_gone, pad_named};
 ghost use Rattle.ep_dir_records.specs.Values.{empty_in};
-ghost use Rattle.ep_dir_reads.specs.Readings.{read};
+ghost use Rattle.ep_dir_records.specs.Readings.{read};
 
 use crate::dir_machine::DirMachine;
 use crate::groups::text_of;
-use ep_dir_reads::{DirBad, with_dollar};
-use ep_dir_records::{Kind, Listed, Puts};
+use ep_dir_records::{DirBad, Kind, Listed, Puts, with_dollar};
 use ep_outside::Keeper;
 use ep_units::{NoMemory, PadId, Units};
 use std::alloc::Global;
@@ -26,25 +25,13 @@ impl<K: Keeper> DirMachine<K> {
         self.records.needed(found, DirBad::BadName)
     }
 
-    fn pad_listed(&self, pad: PadId) -> Result<(PadId, Puts), DirBad>
-        ensures { Reads self.now self.now (λ _. Ok (pad, put (key Kind.GroupPad pad) [] ∷ [])) result }
-    {
-        let puts = pad_puts(self.alloc, &pad)?;
-        Ok((pad, puts))
-    }
-
-    fn new_pad(&self, group: &Units, name: &Units) -> Result<(PadId, Puts), DirBad>
-        ensures { Reads self.now self.now (λ _. on_ok (pad_named group.now name.now) (λ pad. Ok (pad, put (key Kind.GroupPad pad) [] ∷ []))) result }
-    {
-        let pad = self.pad_named(group, name)?;
-        self.pad_listed(pad)
-    }
-
     fn planned_pad(&mut self, group: &Units, name: &Units) -> Result<(PadId, Puts), DirBad>
         ensures { Reads self.old self.new (add_group_pad group.now name.now) result }
     {
         self.records.in_group(group)?;
-        self.new_pad(group, name)
+        let pad = self.pad_named(group, name)?;
+        let puts = pad_puts(self.alloc, &pad)?;
+        Ok((pad, puts))
     }
 
     /// Lists a pad of a group by its name, also where it is listed already.
@@ -55,34 +42,16 @@ impl<K: Keeper> DirMachine<K> {
         self.records.commit(pad, puts)
     }
 
-    fn unlisted(&self, pad: &PadId, mark: Option<()>) -> Result<((), Puts), DirBad>
-        ensures { Reads self.now self.now (λ _. Ok (tt, listed_pad_gone pad.now mark)) result }
-    {
-        let puts = unlisted_puts(self.alloc, pad, mark)?;
-        Ok(((), puts))
-    }
-
-    fn pad_mark(&mut self, pad: &PadId) -> Result<Option<()>, DirBad>
-        ensures { Reads self.old self.new (read empty_in (key Kind.GroupPad pad.now)) result }
-    {
-        let name = text_of(self.alloc, pad)?;
-        self.records.read_mark(Kind::GroupPad, &name)
-    }
-
-    fn dropped(&mut self, pad: &PadId) -> Result<((), Puts), DirBad>
-        ensures { Reads self.old self.new (λ m. on_ok (read empty_in (key Kind.GroupPad pad.now) m) (λ mark. Ok (tt, listed_pad_gone pad.now mark))) result }
-    {
-        let mark = self.pad_mark(pad)?;
-        self.unlisted(pad, mark)
-    }
-
     fn planned_drop(&mut self, pad: &PadId) -> Result<((), Puts), DirBad>
         ensures { Reads self.old self.new (drop_group_pad pad.now) result }
     {
-        match pad.group() {
-            Some(_) => self.dropped(pad),
-            None => Ok(((), Puts::new(self.alloc))),
+        if pad.group().is_none() {
+            return Ok(((), Puts::new(self.alloc)));
         }
+        let name = text_of(self.alloc, pad)?;
+        let mark = self.records.read_mark(Kind::GroupPad, &name)?;
+        let puts = unlisted_puts(self.alloc, pad, mark)?;
+        Ok(((), puts))
     }
 
     /// Takes a pad from its group's list. One that is not listed is dropped already.

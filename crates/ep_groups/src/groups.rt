@@ -3,30 +3,23 @@
 ghost use Rattle.std.specs.Prelude.{◌≡◌, ◌++◌, ◌∷◌, [], IfOk, OnOk, Ok, None, Some, if◌then◌else◌, is_some, map};
 ghost use Rattle.ep_dir_records.specs.Keys.{count_put, gone, key};
 ghost use Rattle.ep_dir_records.specs.declared.ids.IdKind.TheVariants as id;
-ghost use Rattle.ep_dir_reads.specs.Answers.{Answers, Reads, on_ok, only};
+ghost use Rattle.ep_dir_records.specs.Answers.{Answers, Reads, only};
 ghost use Rattle.ep_groups.specs.Directory.{create_group, delete_group, group_for, group_gone, group_put, live_group, made, mapped_group, mapped_group_put, old_or};
-ghost use Rattle.ep_dir_reads.specs.Readings.{groups, of_group, pads_of, sessions};
+ghost use Rattle.ep_dir_records.specs.Readings.{groups, of_group, pads_of, sessions};
 
 use crate::dir_machine::DirMachine;
-use ep_dir_reads::DirBad;
-use ep_dir_records::{Drawn, IdKind, Kind, Listed, Puts, SessionInfo};
+use ep_dir_records::{DirBad, Drawn, IdKind, Kind, Listed, Puts, SessionInfo};
 use ep_outside::Keeper;
 use ep_units::{NoMemory, PadId, Units};
 use std::alloc::Global;
 
 impl<K: Keeper> DirMachine<K> {
-    fn group_made(&self, group: Units, n: u64) -> Result<(Units, Puts), DirBad>
-        ensures { Reads self.now self.now (λ _. Ok (group, count_put n ∷ group_put group)) result }
-    {
-        let puts = group_puts(self.alloc, &group, n)?;
-        Ok((group, puts))
-    }
-
     fn planned_group(&mut self, drawn: &Drawn) -> Result<(Units, Puts), DirBad>
         ensures { Reads self.old self.new (create_group drawn.now.digits) result }
     {
         let (group, n) = self.records.new_id(IdKind::Group, drawn)?;
-        self.group_made(group, n)
+        let puts = group_puts(self.alloc, &group, n)?;
+        Ok((group, puts))
     }
 
     /// A new group.
@@ -37,73 +30,28 @@ impl<K: Keeper> DirMachine<K> {
         self.records.commit(group, puts)
     }
 
-    fn only_live(&self, group: Units, mark: Option<()>) -> Result<Option<Units>, DirBad>
-        ensures { Reads self.now self.now (λ _. Ok (if is_some mark then Some group else None)) result }
-    {
-        match mark {
-            Some(()) => Ok(Some(group)),
-            None => Ok(None),
-        }
-    }
-
-    fn live(&mut self, group: Units) -> Result<Option<Units>, DirBad>
-        ensures { Reads self.old self.new (live_group (Some group)) result }
-    {
-        let mark = self.records.read_mark(Kind::Group, &group)?;
-        self.only_live(group, mark)
-    }
-
-    fn live_group(&mut self, old: Option<Units>) -> Result<Option<Units>, DirBad>
-        ensures { Reads self.old self.new (live_group old) result }
-    {
-        match old {
-            Some(group) => self.live(group),
-            None => Ok(None),
-        }
-    }
-
     fn mapped_group(&mut self, mapper: &Units) -> Result<Option<Units>, DirBad>
         ensures { Reads self.old self.new (mapped_group mapper.now) result }
     {
         let old = self
             .records
             .read_id(IdKind::Group, Kind::GroupMapper, mapper)?;
-        self.live_group(old)
-    }
-
-    fn mapped_made(&self, mapper: &Units, group: Units, n: u64) -> Result<(Units, Puts), DirBad>
-        ensures { Reads self.now self.now (λ _. Ok (group, count_put n ∷ mapped_group_put mapper.now group)) result }
-    {
-        let puts = mapped_group_puts(self.alloc, mapper, &group, n)?;
-        Ok((group, puts))
-    }
-
-    fn new_group_for(&mut self, mapper: &Units, drawn: &Drawn) -> Result<(Units, Puts), DirBad>
-        ensures { Reads self.old self.new (made id.Group drawn.now.digits (mapped_group_put mapper.now)) result }
-    {
-        let (group, n) = self.records.new_id(IdKind::Group, drawn)?;
-        self.mapped_made(mapper, group, n)
-    }
-
-    fn old_group_or(
-        &mut self,
-        old: Option<Units>,
-        mapper: &Units,
-        drawn: &Drawn,
-    ) -> Result<(Units, Puts), DirBad>
-        ensures { Reads self.old self.new (λ m. old_or old (made id.Group drawn.now.digits (mapped_group_put mapper.now) m)) result }
-    {
-        match old {
-            Some(group) => Ok((group, Puts::new(self.alloc))),
-            None => self.new_group_for(mapper, drawn),
+        let Some(group) = old else { return Ok(None) };
+        match self.records.read_mark(Kind::Group, &group)? {
+            Some(()) => Ok(Some(group)),
+            None => Ok(None),
         }
     }
 
     fn planned_group_for(&mut self, mapper: &Units, drawn: &Drawn) -> Result<(Units, Puts), DirBad>
         ensures { Reads self.old self.new (group_for mapper.now drawn.now.digits) result }
     {
-        let old = self.mapped_group(mapper)?;
-        self.old_group_or(old, mapper, drawn)
+        if let Some(group) = self.mapped_group(mapper)? {
+            return Ok((group, Puts::new(self.alloc)));
+        }
+        let (group, n) = self.records.new_id(IdKind::Group, drawn)?;
+        let puts = mapped_group_puts(self.alloc, mapper, &group, n)?;
+        Ok((group, puts))
     }
 
     /// The group of a mapper: a new one at its first use, and where its old one is gone.
@@ -121,38 +69,15 @@ impl<K: Keeper> DirMachine<K> {
         self.records.all_groups()
     }
 
-    fn group_gone(
-        &self,
-        group: &Units,
-        infos: Listed<SessionInfo>,
-        pads: Listed<PadId>,
-    ) -> Result<((), Puts), DirBad>
-        ensures { Reads self.now self.now (λ _. Ok (tt, group_gone group.now (of_group group.now infos) pads)) result }
-    {
-        let infos = only_of_group(infos, group);
-        let puts = gone_puts(self.alloc, group, infos.as_slice(), pads.as_slice())?;
-        Ok(((), puts))
-    }
-
-    fn gone_with(&mut self, group: &Units, infos: Listed<SessionInfo>) -> Result<((), Puts), DirBad>
-        ensures { Reads self.old self.new (λ m. on_ok (pads_of group.now m) (λ pads. Ok (tt, group_gone group.now (of_group group.now infos) pads))) result }
-    {
-        let pads = self.records.pads_of(group)?;
-        self.group_gone(group, infos, pads)
-    }
-
-    fn gone_from(&mut self, group: &Units) -> Result<((), Puts), DirBad>
-        ensures { Reads self.old self.new (λ m. on_ok (sessions m) (λ is. on_ok (pads_of group.now m) (λ pads. Ok (tt, group_gone group.now (of_group group.now is) pads)))) result }
-    {
-        let infos = self.records.all_sessions()?;
-        self.gone_with(group, infos)
-    }
-
     fn planned_deletion(&mut self, group: &Units) -> Result<((), Puts), DirBad>
         ensures { Reads self.old self.new (delete_group group.now) result }
     {
         self.records.in_group(group)?;
-        self.gone_from(group)
+        let infos = self.records.all_sessions()?;
+        let pads = self.records.pads_of(group)?;
+        let infos = only_of_group(infos, group);
+        let puts = gone_puts(self.alloc, group, infos.as_slice(), pads.as_slice())?;
+        Ok(((), puts))
     }
 
     /// Deletes a group with its sessions and its list of pads. The pads themselves stay.

@@ -2,8 +2,9 @@
 //!
 //! Each call of `DirMachine` reads what it needs, plans its answer and its puts, and then makes the one
 //! `put_all`, so that a refusal has changed nothing. The crates above may rest on each call being its
-//! definition in `specs/` wherever the keeper tells its map, and on the causes of its refusals. It is
-//! not for what a pad itself decides: who may enter a pad that is there stands with the pad.
+//! definition in `specs/` wherever the keeper tells its map, on the causes of its refusals, and on the laws
+//! of its histories. It is not for what a pad itself decides: who may enter a pad that is there stands with
+//! the pad.
 #![tactic(auto)]
 
 mod authors;
@@ -12,10 +13,11 @@ mod entries;
 mod grants;
 mod group_pads;
 mod groups;
+mod laws;
 mod read_only;
 mod sessions;
 
 pub use dir_machine::DirMachine;
 pub use entries::{DirEntry, DirReply, GrantAsked, SessionAsked};
-pub use ep_dir_reads::DirBad;
-pub use ep_dir_records::{Drawn, Listed, SessionInfo};
+pub use ep_dir_records::{DirBad, Drawn, Listed, SessionInfo};
+pub use laws::{is_call, kept_never, legal_follows, ours_stays};

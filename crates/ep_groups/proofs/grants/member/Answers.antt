@@ -1,4 +1,4 @@
-use Rattle.ep_dir_reads.proofs.Chains.{reads_as, reads_still, reads_stop, reads_then}
+use Rattle.ep_dir_records.proofs.Chains.{reads_as, reads_still, reads_stop, reads_then}
 use Rattle.ep_groups.proofs.Members.{member_cons, member_end}
 use Rattle.ep_groups.specs.Policy.{member, member_or}
 use Rattle.ep_outside.specs.declared.keeper.Pair.{Pair}

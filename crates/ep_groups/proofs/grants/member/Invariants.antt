@@ -1,6 +1,6 @@
-use Rattle.ep_dir_reads.specs.Answers.{Reads, Seen}
+use Rattle.ep_dir_records.specs.Answers.{Reads, Seen}
 use Rattle.ep_groups.specs.Policy.{member}
-use Rattle.ep_dir_reads.specs.declared.dir_bad.DirBad.{DirBad}
+use Rattle.ep_dir_records.specs.declared.dir_bad.DirBad.{DirBad}
 use Rattle.std.specs.Prelude.{List, Option, Result, drop, length, ℕ, ◌-◌, ◌≤◌}
 use Rattle.ep_groups.proofs.grants.member.Given as goal
 

@@ -1,5 +1,5 @@
 use Rattle.std.proofs.Common.{sym}
-use Rattle.ep_dir_reads.proofs.Chains.{reads_only}
+use Rattle.ep_dir_records.proofs.Chains.{reads_only}
 use Rattle.ep_groups.proofs.dir_machine.DirMachine.session.Goals as goal
 
 pub returns : goal.returns
