@@ -1,0 +1,15 @@
+pub mod Lists
+pub mod History
+pub mod Pad
+pub mod Refusals
+pub mod Entry
+pub mod Accept
+pub mod Server
+pub mod Admissible
+pub mod Client
+pub mod Kept
+pub mod Readings
+pub mod Records
+pub mod Entries
+pub mod Machine
+pub mod Fetches
