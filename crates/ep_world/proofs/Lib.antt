@@ -1,6 +1,6 @@
+pub mod Inserted
 pub mod Views
 pub mod Standing
-pub mod Members
 pub mod Events
 pub mod Pending
 pub mod Shown

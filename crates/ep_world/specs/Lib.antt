@@ -1,6 +1,4 @@
-pub mod Pad
-pub mod Client
-pub mod World
+pub mod Events
 pub mod Shows
 pub mod Stands
 pub mod StandsFor

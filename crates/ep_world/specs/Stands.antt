@@ -1,11 +1,23 @@
 -- What a world in code stands for.
 use Rattle.std.specs.Prelude.{◌≡◌, ℕ, suc, true, false, if◌then◌else◌, List, [], ◌∷◌, ◌++◌, length, Option, Some, None, Result, Ok, Err}
-use Rattle.ep_units.specs.Text.{Text, text_eq}
+use Rattle.ep_units.specs.Text.{Text, text_eq, is_well_formed}
+use Rattle.ep_units.specs.PadId.{has_group}
 use Rattle.ep_units.specs.declared.session.Session.{Session}
 use Rattle.ep_cs.specs.Edit.{Edit, apply, identity}
+use Rattle.ep_cs.specs.EditFits.{fits}
 use Rattle.ep_cs.specs.Change.{Change, stamped}
 use Rattle.ep_cs.specs.Fits.{is_identity}
 use Rattle.ep_cs.specs.Plain.{plain}
+use Rattle.ep_history.specs.Accept.{first_other}
+use Rattle.ep_history.specs.Client.{ClientState}
+use Rattle.ep_history.specs.History.{Birth, made, first_doc, head_doc}
+use Rattle.ep_history.specs.Pad.{PadState}
+use Rattle.ep_history.specs.declared.rev.Rev.{Rev}
+use Rattle.ep_history.specs.declared.seat.Seat.{Seat}
+use Rattle.ep_history.specs.declared.submission.Submission.{Submission}
+use Rattle.ep_schedule.specs.World.{Name, author_of, Message, Down, Conn, Member, WorldState}
+use Rattle.ep_schedule.specs.World.Actor.{Nobody, Named}
+use Rattle.ep_schedule.specs.World.Down.{Revision}
 use Rattle.ep_script.specs.declared.event.Event.{Event}
 use Rattle.ep_script.specs.declared.shown.Shown.{Shown}
 use Rattle.ep_script.specs.declared.shown.State.{State}
@@ -17,72 +29,118 @@ use Rattle.ep_world.specs.declared.client.Client.{Client}
 use Rattle.ep_world.specs.declared.pad.Pad.{Pad}
 use Rattle.ep_world.specs.declared.bad.WorldBad.{WorldBad}
 use Rattle.ep_world.specs.declared.bad.WorldBad.TheVariants as bad
-use Rattle.ep_world.specs.Pad.{Rev, doc_after, newline, head_doc}
-use Rattle.ep_world.specs.Client.{Submission}
-use Rattle.ep_world.specs.World.{Message, Member, WorldState, is_known, is_built, happens, is_pad_text}
+use Rattle.ep_world.specs.Events.{world_limits, after_event, is_known, is_built}
 use Rattle.ep_world.specs.Shows.{shows, shows_view}
+
+-- ---- the pad
+
+-- no pad yet, and no session
+abbrev pub absent_pad : PadState
+absent_pad = record { limits = world_limits; epoch = 1; sessions = []; births = []; present = false; public = false }
+
+-- a birth with these revisions, in which no edit became nothing
+abbrev pub birth_of : Rev → List Rev → Birth
+birth_of first later = record { first = first; later = later; nops = [] }
+
+-- a pad that is there in its first birth, with these sessions
+abbrev pub pad_of : Birth → List Seat → PadState
+pad_of b seats = record { limits = world_limits; epoch = 1; sessions = seats; births = b ∷ []; present = true; public = false }
+
+-- a live seat that may write
+abbrev pub seat_for : Name → Seat
+seat_for n = record { author = author_of n; read_only = false; end = None }
+
+-- ---- the one client, by how far its pending change has come
 
 -- the session of the one client
 abbrev pub first_session : Session
 first_session = record { epoch = 1; count = 1 }
 
--- the change stands as a submission from the time it is sent until its commit is heard
-abbrev pub sent_in : ℕ → Edit → Stage → Option Submission
-sent_in rev e stage.Local = None
-sent_in rev e stage.Up = Some (record { edit = e; base = rev; session = first_session })
-sent_in rev e stage.Taken = Some (record { edit = e; base = rev; session = first_session })
-sent_in rev e stage.Down = Some (record { edit = e; base = rev; session = first_session })
+-- the revision that its change made when it was taken
+abbrev pub own_rev : Name → ℕ → Change → Rev
+own_rev name time change = record { change = change; author = author_of name; session = first_session; time = time }
 
-abbrev pub local_in : Text → Edit → Stage → Edit
-local_in text e stage.Local = e
-local_in text e stage.Up = identity (length (apply e (plain text)))
-local_in text e stage.Taken = identity (length (apply e (plain text)))
-local_in text e stage.Down = identity (length (apply e (plain text)))
+-- its change as a submission of its revision
+abbrev pub submission_of : ℕ → Change → Submission
+submission_of rev change = record { base = rev; change = change; session = first_session }
 
-abbrev pub up_in : ℕ → Edit → Stage → List Message
-up_in rev e stage.Local = []
-up_in rev e stage.Up = record { base = rev; edit = e } ∷ []
-up_in rev e stage.Taken = []
-up_in rev e stage.Down = []
+-- its change on its way to the server
+abbrev pub message_of : ℕ → ℕ → Change → Message
+message_of number rev change = record { number = number; base = rev; change = change }
 
-abbrev pub own_rev : Edit → Rev
-own_rev e = record { edit = e; session = first_session }
+-- it is a submission from the time that it is sent until its commit is heard
+abbrev pub sent_in : ℕ → Change → Stage → Option Submission
+sent_in rev change stage.Local = None
+sent_in rev change stage.Up = Some (submission_of rev change)
+sent_in rev change stage.Taken = Some (submission_of rev change)
+sent_in rev change stage.Down = Some (submission_of rev change)
 
-abbrev pub down_in : Edit → Stage → List Rev
-down_in e stage.Local = []
-down_in e stage.Up = []
-down_in e stage.Taken = []
-down_in e stage.Down = own_rev e ∷ []
+-- it is the local edit before that
+abbrev pub local_in : Text → Change → Stage → Edit
+local_in text change stage.Local = change.edit
+local_in text change stage.Up = identity (length (apply change.edit (plain text)))
+local_in text change stage.Taken = identity (length (apply change.edit (plain text)))
+local_in text change stage.Down = identity (length (apply change.edit (plain text)))
 
+-- it is in the queue up until it is taken
+abbrev pub up_in : ℕ → ℕ → Change → Stage → List Message
+up_in number rev change stage.Local = []
+up_in number rev change stage.Up = message_of number rev change ∷ []
+up_in number rev change stage.Taken = []
+up_in number rev change stage.Down = []
+
+-- its revision is in the queue down until it is heard
+abbrev pub down_in : Rev → Stage → List Down
+down_in v stage.Local = []
+down_in v stage.Up = []
+down_in v stage.Taken = []
+down_in v stage.Down = Revision v ∷ []
+
+-- the last revision that was sent down
 abbrev pub last_sent_in : ℕ → Stage → ℕ
 last_sent_in rev stage.Local = rev
 last_sent_in rev stage.Up = rev
 last_sent_in rev stage.Taken = rev
 last_sent_in rev stage.Down = suc rev
 
--- the revision past the client's own, which is of its change
-abbrev pub news_in : Edit → Stage → List Rev
-news_in e stage.Local = []
-news_in e stage.Up = []
-news_in e stage.Taken = own_rev e ∷ []
-news_in e stage.Down = own_rev e ∷ []
+-- its revision stands behind those that the client has heard, once it was taken
+abbrev pub news_in : Rev → Stage → List Rev
+news_in v stage.Local = []
+news_in v stage.Up = []
+news_in v stage.Taken = v ∷ []
+news_in v stage.Down = v ∷ []
 
-abbrev pub member_with : ℕ → Text → Edit → Stage → Member
-member_with rev text e at = record {
-  client = record { rev = rev; sent = sent_in rev e at; local = local_in text e at; session = first_session };
-  conn = record { session = first_session; up = up_in rev e at; down = down_in e at; sent = last_sent_in rev at };
-}
+-- a client that is connected in the first session
+abbrev pub client_with : ℕ → Option Submission → Edit → ClientState
+client_with rev sent local = record { rev = rev; sent = sent; local = local; session = first_session; connected = true; told = 0 }
 
-abbrev pub member_of : ℕ → Text → Option Pending → Member
-member_of rev text None = record {
-  client = record { rev = rev; sent = None; local = identity (length text); session = first_session };
-  conn = record { session = first_session; up = []; down = []; sent = rev };
-}
-member_of rev text (Some p) = member_with rev text p.change.edit p.stage
+-- its connection, on which nothing but revisions was sent
+abbrev pub conn_with : List Message → List Down → ℕ → Conn
+conn_with up down sent = record { session = first_session; up = up; down = down; sent = sent; nops = 0; closed = false }
 
-abbrev pub news_of : Option Pending → List Rev
-news_of None = []
-news_of (Some p) = news_in p.change.edit p.stage
+-- a client of the first birth, on its first connection
+abbrev pub member_with : ℕ → ClientState → Conn → Member
+member_with number c conn = record { client = c; number = number; birth = 1; conn = conn; earlier = None }
+
+-- a client with this text and nothing pending
+abbrev pub quiet_member : ℕ → ℕ → Text → Member
+quiet_member number rev text = member_with number (client_with rev None (identity (length text))) (conn_with [] [] rev)
+
+-- a client with this text and this change, which was taken at a moment
+abbrev pub busy_member : ℕ → ℕ → Name → ℕ → Text → Change → Stage → Member
+busy_member number time name rev text change at =
+    member_with number (client_with rev (sent_in rev change at) (local_in text change at))
+    (conn_with (up_in number rev change at) (down_in (own_rev name time change) at) (last_sent_in rev at))
+
+-- the client, by its pending change
+abbrev pub member_of : ℕ → ℕ → Name → ℕ → Text → Option Pending → Member
+member_of number time name rev text None = quiet_member number rev text
+member_of number time name rev text (Some p) = busy_member number time name rev text p.change p.stage
+
+-- the revision that it has not heard yet
+abbrev pub news_of : ℕ → Name → Option Pending → List Rev
+news_of time name None = []
+news_of time name (Some p) = news_in (own_rev name time p.change) p.stage
 
 -- what a client with a pending change is shown as
 abbrev pub state_at : Stage → State
@@ -91,65 +149,80 @@ state_at stage.Up = state.Sent
 state_at stage.Taken = state.Sent
 state_at stage.Down = state.Sent
 
--- a change that is pending is one of the client's text, and alters something
+-- ---- what the code keeps of them
+
+-- a change that is pending is one of the client's text, names no author, and alters something
 pub record IsPending (text : Text) (change : Change) : Type 0 where
-  pub places : length change.edit.places ≡ length text
-  pub stamped : change ≡ stamped change.edit text
+  pub fitting : fits change.edit (plain text) ≡ true
+  pub told : change ≡ stamped change.edit text
+  pub author : (author : Text) → first_other author 0 change.runs ≡ None
   pub alters : is_identity change.edit ≡ false
 
+-- so is the one that is there
 abbrev pub ArePending : Text → Option Pending → Type 0
 ArePending text None = Unit {0}
 ArePending text (Some p) = IsPending text p.change
 
--- the pad has the revisions
-pub record HasRevs (revs : List Rev) (pad : Pad) : Type 0 where
-  pub head : length revs ≡ suc pad.head
-  pub doc : head_doc revs ≡ plain pad.text
-  pub text : is_pad_text pad.text ≡ true
+-- the pad has the number of the last revision and its text
+pub record HasRevs (first : Rev) (later : List Rev) (pad : Pad) : Type 0 where
+  pub head : length later ≡ pad.head
+  pub doc : head_doc (birth_of first later) ≡ plain pad.text
+  pub text : is_well_formed pad.text ≡ true
 
--- the client has heard the first of these revisions, and all but what its pending change made
-pub record HasHeard (revs : List Rev) (client : Client) : Type 0 where
+-- the client has heard the first of these revisions, and all but the one that its pending change made
+pub record HasHeard (first : Rev) (later : List Rev) (time : ℕ) (client : Client) : Type 0 where
   pub heard : List Rev
-  pub whole : revs ≡ heard ++ news_of client.pending
-  pub rev : length heard ≡ suc client.rev
-  pub doc : doc_after newline heard ≡ plain client.text
-  pub text : is_pad_text client.text ≡ true
+  pub whole : later ≡ heard ++ news_of time client.name client.pending
+  pub rev : length heard ≡ client.rev
+  pub doc : made (first_doc (birth_of first later)) heard ≡ plain client.text
+  pub text : is_well_formed client.text ≡ true
   pub pending : ArePending client.text client.pending
 
-pub record HasMember (members : Text → Option Member) (client : Client) : Type 0 where
-  pub each : (q : Text) → members q ≡ (if text_eq q client.name then Some (member_of client.rev client.text client.pending) else None)
+-- ---- the world
 
-pub record HasNobody (w : WorldState) : Type 0 where
-  pub logins : w.logins ≡ 0
-  pub members : (q : Text) → w.members q ≡ None
+-- nothing is there yet
+pub record IsStart (w : WorldState) : Type 0 where
+  pub group : has_group w.id ≡ false
+  pub absent : w.pad ≡ absent_pad
+  pub nobody : (q : Name) → w.actors q ≡ Nobody
 
--- a pad with its client stands for a world
-pub record AreBoth (pad : Pad) (client : Client) (w : WorldState) : Type 0 where
-  pub revs : List Rev
-  pub there : w.pad ≡ Some revs
-  pub has_revs : HasRevs revs pad
-  pub has_heard : HasHeard revs client
-  pub logins : w.logins ≡ 1
-  pub has_member : HasMember w.members client
-
+-- the pad is there, and nobody else
 pub record IsAlone (pad : Pad) (w : WorldState) : Type 0 where
-  pub revs : List Rev
-  pub there : w.pad ≡ Some revs
-  pub has_revs : HasRevs revs pad
-  pub nobody : HasNobody w
+  pub first : Rev
+  pub later : List Rev
+  pub group : has_group w.id ≡ false
+  pub there : w.pad ≡ pad_of (birth_of first later) []
+  pub has_revs : HasRevs first later pad
+  pub nobody : (q : Name) → w.actors q ≡ Nobody
 
+-- the pad and its one client are there. Its submission has some number, and was taken at some moment.
+pub record AreBoth (pad : Pad) (client : Client) (w : WorldState) : Type 0 where
+  pub first : Rev
+  pub later : List Rev
+  pub number : ℕ
+  pub time : ℕ
+  pub group : has_group w.id ≡ false
+  pub there : w.pad ≡ pad_of (birth_of first later) (seat_for client.name ∷ [])
+  pub has_revs : HasRevs first later pad
+  pub has_heard : HasHeard first later time client
+  pub actors : (q : Name) → w.actors q ≡ (if text_eq q client.name then Named (member_of number time client.name client.rev client.text client.pending) else Nobody)
+
+-- a pad and a client, where they are there, stand for a world; nothing is said of who made which edit, what was taken
+-- and what is known
 abbrev pub Stands : Option Pad → Option Client → WorldState → Type 0
-Stands None None w = (w.pad ≡ None) × HasNobody w
+Stands None None w = IsStart w
 Stands None (Some client) w = ⊥
 Stands (Some pad) None w = IsAlone pad w
 Stands (Some pad) (Some client) w = AreBoth pad client w
 
--- An event is answered as the world's step is, and want of memory changes nothing
-abbrev pub Answers : WorldState → Event → Result Shown WorldBad → Option Pad → Option Client → Type 0
-Answers w e (Ok shown) pad client = (is_known w e ≡ true) × (is_built w e ≡ true) × (shown ≡ shows w e) × Stands pad client (happens w e)
-Answers w e (Err bad.Unknown) pad client = (is_known w e ≡ false) × Stands pad client w
-Answers w e (Err bad.NotBuilt) pad client = (is_known w e ≡ true) × (is_built w e ≡ false) × Stands pad client w
-Answers w e (Err bad.NoMemory) pad client = Stands pad client w
+-- ---- answers
+
+-- an event is answered as the world's step at this moment is, and want of memory changes nothing
+abbrev pub Answers : WorldState → ℕ → Event → Result Shown WorldBad → Option Pad → Option Client → Type 0
+Answers w now e (Ok shown) pad client = (is_known w e ≡ true) × (is_built w e ≡ true) × (shown ≡ shows w now e) × Stands pad client (after_event w now e)
+Answers w now e (Err bad.Unknown) pad client = (is_known w e ≡ false) × Stands pad client w
+Answers w now e (Err bad.NotBuilt) pad client = (is_known w e ≡ true) × (is_built w e ≡ false) × Stands pad client w
+Answers w now e (Err bad.NoMemory) pad client = Stands pad client w
 
 -- what a client sees, or that nobody has that name
 abbrev pub ShowsView : WorldState → Text → Result Shown WorldBad → Type 0

@@ -1,10 +1,10 @@
 //! The client: the revision that it has heard, and its one pending change.
 
-ghost use Rattle.std.specs.Prelude.{◌≡◌, suc, Some, None, IfOk, IsOkUnless};
+ghost use Rattle.std.specs.Prelude.{◌≡◌, ℕ, suc, Some, None, IfOk, IsOkUnless};
 ghost use Rattle.ep_units.specs.Text.{text_eq};
+ghost use Rattle.ep_schedule.specs.World.{WorldState};
 ghost use Rattle.ep_script.specs.declared.event.Local.TheVariants as local;
 ghost use Rattle.ep_script.specs.declared.event.Event.TheVariants as event;
-ghost use Rattle.ep_world.specs.World.{WorldState};
 ghost use Rattle.ep_world.specs.Shows.{shows_view};
 ghost use Rattle.ep_world.specs.Stands.{Stands, Answers, state_at};
 
@@ -50,7 +50,7 @@ impl Client {
 
     /// A local edit.
     pub fn edit(&mut self, alloc: Global, local: &Local) -> Result<Shown, WorldBad>
-        ensures { (pad : Pad) (w : WorldState) → Stands (Some pad) (Some self.old) w → Answers w (event.Edit self.old.name local.now) result (Some pad) (Some self.new) }
+        ensures { (pad : Pad) (w : WorldState) (now : ℕ) → Stands (Some pad) (Some self.old) w → Answers w now (event.Edit self.old.name local.now) result (Some pad) (Some self.new) }
     {
         if self.pending.is_some() {
             return Err(WorldBad::NotBuilt);
@@ -64,10 +64,13 @@ impl Client {
     /// An insertion into the text of a client with nothing pending.
     fn insert(&mut self, alloc: Global, at: u32, text: &Units) -> Result<Shown, WorldBad>
         requires { self.old.pending ≡ None }
-        ensures { (pad : Pad) (w : WorldState) → Stands (Some pad) (Some self.old) w → Answers w (event.Edit self.old.name (local.Insert at text.now)) result (Some pad) (Some self.new) }
+        ensures { (pad : Pad) (w : WorldState) (now : ℕ) → Stands (Some pad) (Some self.old) w → Answers w now (event.Edit self.old.name (local.Insert at text.now)) result (Some pad) (Some self.new) }
     {
         let at = at as usize;
         if at > self.text.len() {
+            return Err(WorldBad::NotBuilt);
+        }
+        if !text.well_formed() {
             return Err(WorldBad::NotBuilt);
         }
         if self.text.len().saturating_add(text.len()) > u32::MAX as usize {
@@ -88,7 +91,7 @@ impl Client {
 
     /// Sends the local change.
     pub fn submit(&mut self, alloc: Global) -> Result<Shown, WorldBad>
-        ensures { (pad : Pad) (w : WorldState) → Stands (Some pad) (Some self.old) w → Answers w (event.Submit self.old.name) result (Some pad) (Some self.new) }
+        ensures { (pad : Pad) (w : WorldState) (now : ℕ) → Stands (Some pad) (Some self.old) w → Answers w now (event.Submit self.old.name) result (Some pad) (Some self.new) }
     {
         let name = self.name.copy(alloc)?;
         let base = self.rev;
@@ -107,7 +110,7 @@ impl Client {
 
     /// The server sends the next revision.
     pub fn push(&mut self, alloc: Global) -> Result<Shown, WorldBad>
-        ensures { (pad : Pad) (w : WorldState) → Stands (Some pad) (Some self.old) w → Answers w (event.Push self.old.name) result (Some pad) (Some self.new) }
+        ensures { (pad : Pad) (w : WorldState) (now : ℕ) → Stands (Some pad) (Some self.old) w → Answers w now (event.Push self.old.name) result (Some pad) (Some self.new) }
     {
         let name = self.name.copy(alloc)?;
         let rev = after(self.rev)?;
@@ -125,7 +128,7 @@ impl Client {
 
     /// The client hears the first revision that was sent.
     pub fn hear(&mut self, alloc: Global, pad: &Pad) -> Result<Shown, WorldBad>
-        ensures { (w : WorldState) → Stands (Some pad.now) (Some self.old) w → Answers w (event.Hear self.old.name) result (Some pad.now) (Some self.new) }
+        ensures { (w : WorldState) (now : ℕ) → Stands (Some pad.now) (Some self.old) w → Answers w now (event.Hear self.old.name) result (Some pad.now) (Some self.new) }
     {
         let name = self.name.copy(alloc)?;
         let rev = after(self.rev)?;
@@ -187,7 +190,7 @@ fn state_at(stage: Stage) -> State
 /// The server takes the change that the client sent.
 pub fn take(alloc: Global, pad: &mut Pad, client: &mut Client) -> Result<Shown, WorldBad>
     requires { (w : WorldState) × Stands (Some pad.old) (Some client.old) w }
-    ensures { (w : WorldState) → Stands (Some pad.old) (Some client.old) w → Answers w (event.Take client.old.name) result (Some pad.new) (Some client.new) }
+    ensures { (w : WorldState) (now : ℕ) → Stands (Some pad.old) (Some client.old) w → Answers w now (event.Take client.old.name) result (Some pad.new) (Some client.new) }
 {
     let name = client.name.copy(alloc)?;
     let rev = after(pad.head)?;

@@ -1,8 +1,9 @@
 //! The pad: its head.
 
-ghost use Rattle.std.specs.Prelude.{◌≡◌, ◌&&◌};
-ghost use Rattle.ep_world.specs.Pad.{ends_in_newline};
-ghost use Rattle.ep_world.specs.World.{is_pad_text};
+ghost use Rattle.std.specs.Prelude.{◌≡◌, not};
+ghost use Rattle.ep_cs.specs.Plain.{plain};
+ghost use Rattle.ep_history.specs.History.{lacks_newline};
+ghost use Rattle.ep_world.specs.Events.{is_pad_text};
 
 use ep_units::Units;
 
@@ -17,7 +18,7 @@ pub struct Pad {
 }
 
 fn ends_in_newline(text: &[u16]) -> bool
-    ensures { result ≡ ends_in_newline text.now }
+    ensures { result ≡ not (lacks_newline (plain text.now)) }
 {
     match text {
         [] => false,

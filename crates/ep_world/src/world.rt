@@ -1,8 +1,11 @@
 //! The world: one pad and one client, step by step.
 
-ghost use Rattle.std.specs.Prelude.{◌≡◌, Option, IfOk};
+ghost use Rattle.std.specs.Prelude.{◌≡◌, ℕ, false, Option, IfOk};
+ghost use Rattle.ep_units.specs.Text.{Text};
+ghost use Rattle.ep_units.specs.PadId.{has_group};
+ghost use Rattle.ep_schedule.specs.World.{WorldState, start};
 ghost use Rattle.ep_script.specs.declared.event.Event.TheVariants as event;
-ghost use Rattle.ep_world.specs.World.{WorldState, start};
+ghost use Rattle.ep_world.specs.Events.{world_limits};
 ghost use Rattle.ep_world.specs.Shows.{shows_head, shows_view};
 ghost use Rattle.ep_world.specs.Stands.{Stands, Answers, ShowsView};
 ghost use Rattle.ep_world.specs.StandsFor.{StandsFor, IsReached, AnswersStep};
@@ -27,7 +30,8 @@ pub struct World {
 impl World {
     /// No pad yet, and nobody.
     pub fn new() -> World
-        ensures { StandsFor result start }
+        ensures start { (id : Text) → has_group id ≡ false → StandsFor result (start world_limits id) }
+        ensures reached { IsReached result }
     {
         World {
             pad: None,
@@ -35,10 +39,10 @@ impl World {
         }
     }
 
-    /// One step. After an `Err` the world is as it was.
+    /// One step, at whatever moment. After an `Err` the world is as it was.
     pub fn step(&mut self, alloc: Global, event: &Event) -> Result<Shown, WorldBad>
         requires { IsReached self.old }
-        ensures answers { (w : WorldState) → StandsFor self.old w → AnswersStep w event.now result self.new }
+        ensures answers { (w : WorldState) (now : ℕ) → StandsFor self.old w → AnswersStep w now event.now result self.new }
         ensures reached { IsReached self.new }
     {
         match event {
@@ -90,9 +94,9 @@ fn create(
     client: &Option<Client>,
     text: &Units,
 ) -> Result<Shown, WorldBad>
-    ensures { (w : WorldState) → Stands pad.old client.now w → Answers w (event.Create text.now) result pad.new client.now }
+    ensures { (w : WorldState) (now : ℕ) → Stands pad.old client.now w → Answers w now (event.Create text.now) result pad.new client.now }
 {
-    if pad.is_some() || client.is_some() {
+    if pad.is_some() || client.is_some() || !text.well_formed() {
         return Err(WorldBad::NotBuilt);
     }
     let mut text = text.clean(alloc)?;
@@ -113,7 +117,7 @@ fn login(
     client: &mut Option<Client>,
     name: &Units,
 ) -> Result<Shown, WorldBad>
-    ensures { (w : WorldState) → Stands pad.now client.old w → Answers w (event.Login name.now) result pad.now client.new }
+    ensures { (w : WorldState) (now : ℕ) → Stands pad.now client.old w → Answers w now (event.Login name.now) result pad.now client.new }
 {
     if client.is_some() {
         return Err(WorldBad::NotBuilt);
@@ -144,7 +148,7 @@ fn edit_by(
     name: &Units,
     edit: &Local,
 ) -> Result<Shown, WorldBad>
-    ensures { (pad : Option Pad) (w : WorldState) → Stands pad client.old w → Answers w (event.Edit name.now edit.now) result pad client.new }
+    ensures { (pad : Option Pad) (w : WorldState) (now : ℕ) → Stands pad client.old w → Answers w now (event.Edit name.now edit.now) result pad client.new }
 {
     match client {
         None => Err(WorldBad::Unknown),
@@ -159,7 +163,7 @@ fn edit_by(
 }
 
 fn submit_by(alloc: Global, client: &mut Option<Client>, name: &Units) -> Result<Shown, WorldBad>
-    ensures { (pad : Option Pad) (w : WorldState) → Stands pad client.old w → Answers w (event.Submit name.now) result pad client.new }
+    ensures { (pad : Option Pad) (w : WorldState) (now : ℕ) → Stands pad client.old w → Answers w now (event.Submit name.now) result pad client.new }
 {
     match client {
         None => Err(WorldBad::Unknown),
@@ -174,7 +178,7 @@ fn submit_by(alloc: Global, client: &mut Option<Client>, name: &Units) -> Result
 }
 
 fn push_by(alloc: Global, client: &mut Option<Client>, name: &Units) -> Result<Shown, WorldBad>
-    ensures { (pad : Option Pad) (w : WorldState) → Stands pad client.old w → Answers w (event.Push name.now) result pad client.new }
+    ensures { (pad : Option Pad) (w : WorldState) (now : ℕ) → Stands pad client.old w → Answers w now (event.Push name.now) result pad client.new }
 {
     match client {
         None => Err(WorldBad::Unknown),
@@ -195,7 +199,7 @@ fn take_by(
     name: &Units,
 ) -> Result<Shown, WorldBad>
     requires { (w : WorldState) × Stands pad.old client.old w }
-    ensures { (w : WorldState) → Stands pad.old client.old w → Answers w (event.Take name.now) result pad.new client.new }
+    ensures { (w : WorldState) (now : ℕ) → Stands pad.old client.old w → Answers w now (event.Take name.now) result pad.new client.new }
 {
     match client {
         None => Err(WorldBad::Unknown),
@@ -217,7 +221,7 @@ fn hear_by(
     client: &mut Option<Client>,
     name: &Units,
 ) -> Result<Shown, WorldBad>
-    ensures { (w : WorldState) → Stands pad.now client.old w → Answers w (event.Hear name.now) result pad.now client.new }
+    ensures { (w : WorldState) (now : ℕ) → Stands pad.now client.old w → Answers w now (event.Hear name.now) result pad.now client.new }
 {
     match client {
         None => Err(WorldBad::Unknown),

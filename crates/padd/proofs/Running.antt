@@ -5,8 +5,7 @@ use Rattle.std.proofs.lemmas.Bool.Decides.{nat_tests}
 use Rattle.std.proofs.Math.ListN.{length-replicate}
 use Rattle.ep_outside.specs.Outside.{Takes, TakesPart, IsAbove}
 use Rattle.ep_outside.proofs.Pieces.{started, stopped}
-use Rattle.padd.specs.Play.{output_of, status_of, output_from, status_from, reads_of, error_line, is_short, most_bytes}
-use Rattle.ep_world.specs.World.{start}
+use Rattle.padd.specs.Play.{empty, output_of, status_of, output_from, status_from, reads_of, error_line, is_short, most_bytes}
 use Rattle.padd.specs.Run.{Plays, PlaysPart, IsEnd, code_of}
 use Rattle.padd.specs.declared.play.PlayBad.{PlayBad}
 use Rattle.padd.specs.declared.play.PlayBad.TheVariants.{Fault, NoMemory}
@@ -16,10 +15,10 @@ not_short : (xs : List ℕ) → most_bytes < length xs → is_short xs ≡ false
 not_short xs h = grind (arith, nat_tests)
 
 long_status : (xs : List ℕ) → most_bytes < length xs → 12 ≡ status_of xs
-long_status xs h = sym (ap (λ b. cond b (status_from start (reads_of xs)) 12) (not_short xs h))
+long_status xs h = sym (ap (λ b. cond b (status_from 1 empty (reads_of xs)) 12) (not_short xs h))
 
 long_output : (xs : List ℕ) → most_bytes < length xs → error_line 0 NotBuilt ≡ output_of xs
-long_output xs h = sym (ap (λ b. cond b (output_from 1 start (reads_of xs)) (error_line 0 NotBuilt)) (not_short xs h))
+long_output xs h = sym (ap (λ b. cond b (output_from 1 empty (reads_of xs)) (error_line 0 NotBuilt)) (not_short xs h))
 
 long_script : (n : ℕ) → (xs : List ℕ) × (n < length xs)
 long_script n = (replicate (suc n) 0, let e : length (replicate (suc n) 0) ≡ suc n = length-replicate (suc n) 0 in subst (λ k. n < k) (sym e) (let h : n < suc n = omega arith in h))

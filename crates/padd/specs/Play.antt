@@ -9,7 +9,8 @@ use Rattle.ep_script.specs.declared.line.Line.TheVariants as line
 use Rattle.ep_script.specs.declared.line.LineBad.{LineBad}
 use Rattle.ep_script.specs.declared.line.LineBad.TheVariants as bad
 use Rattle.ep_script.specs.declared.shown.Shown.{Shown}
-use Rattle.ep_world.specs.World.{WorldState, start, happens, is_known, is_built}
+use Rattle.ep_schedule.specs.World.{WorldState, start}
+use Rattle.ep_world.specs.Events.{world_limits, after_event, is_known, is_built}
 use Rattle.ep_world.specs.Shows.{shows, shows_head, shows_view}
 use Rattle.padd.specs.declared.reason.Reason.{Reason}
 use Rattle.padd.specs.declared.reason.Reason.TheVariants.{Utf8, Syntax, Unknown, NotBuilt}
@@ -38,26 +39,27 @@ abbrev pub view_out : Option Shown → List ℕ
 view_out None = []
 view_out (Some shown) = printed shown
 
--- what a line writes
-abbrev pub line_out : WorldState → Line → List ℕ
-line_out w line.Blank = []
-line_out w (line.Event e) = printed (shows w e)
-line_out w (line.Show name) = view_out (shows_view w name)
-line_out w line.Head = printed (shows_head w)
-line_out w line.Later = []
+-- what a line writes; the moment of line k is k milliseconds
+abbrev pub line_out : ℕ → WorldState → Line → List ℕ
+line_out k w line.Blank = []
+line_out k w (line.Event e) = printed (shows w k e)
+line_out k w (line.Show name) = view_out (shows_view w name)
+line_out k w line.Head = printed (shows_head w)
+line_out k w line.Later = []
 
-abbrev pub out : WorldState → Result Line LineBad → List ℕ
-out w (Ok l) = line_out w l
-out w (Err bad) = []
+-- what is no line writes nothing
+abbrev pub out : ℕ → WorldState → Result Line LineBad → List ℕ
+out k w (Ok l) = line_out k w l
+out k w (Err bad) = []
 
--- the world behind a line
-abbrev pub world_after : WorldState → Result Line LineBad → WorldState
-world_after w (Ok (line.Event e)) = happens w e
-world_after w (Ok line.Blank) = w
-world_after w (Ok (line.Show name)) = w
-world_after w (Ok line.Head) = w
-world_after w (Ok line.Later) = w
-world_after w (Err bad) = w
+-- the world behind line k
+abbrev pub world_after : ℕ → WorldState → Result Line LineBad → WorldState
+world_after k w (Ok (line.Event e)) = after_event w k e
+world_after k w (Ok line.Blank) = w
+world_after k w (Ok (line.Show name)) = w
+world_after k w (Ok line.Head) = w
+world_after k w (Ok line.Later) = w
+world_after k w (Err bad) = w
 
 -- ---- a script
 
@@ -92,11 +94,12 @@ status_or (Some reason) status = status_of_reason reason
 -- what lines write, the first of which has the number k: each its own, up to the first that isn't played
 abbrev pub output_from : ℕ → WorldState → List (Result Line LineBad) → List ℕ
 output_from k w [] = []
-output_from k w (r ∷ rs) = out_or k (stops w r) (out w r ++ output_from (k + 1) (world_after w r) rs)
+output_from k w (r ∷ rs) = out_or k (stops w r) (out k w r ++ output_from (k + 1) (world_after k w r) rs)
 
-abbrev pub status_from : WorldState → List (Result Line LineBad) → ℕ
-status_from w [] = 0
-status_from w (r ∷ rs) = status_or (stops w r) (status_from (world_after w r) rs)
+-- the status of such lines
+abbrev pub status_from : ℕ → WorldState → List (Result Line LineBad) → ℕ
+status_from k w [] = 0
+status_from k w (r ∷ rs) = status_or (stops w r) (status_from (k + 1) (world_after k w r) rs)
 
 -- the most bytes that a script may have
 abbrev pub most_bytes : ℕ
@@ -105,10 +108,14 @@ most_bytes = 1048576
 abbrev pub is_short : List ℕ → Bool
 is_short script = nat_le (length script) most_bytes
 
+-- the world that a script begins with: of a pad that has no group
+abbrev pub empty : WorldState
+empty = start world_limits (codes "pad")
+
 -- what a script writes: the transcript of its lines
 abbrev pub output_of : List ℕ → List ℕ
-output_of script = if is_short script then output_from 1 start (reads_of script) else error_line 0 NotBuilt
+output_of script = if is_short script then output_from 1 empty (reads_of script) else error_line 0 NotBuilt
 
 -- its status: 0, or why it ended early
 abbrev pub status_of : List ℕ → ℕ
-status_of script = if is_short script then status_from start (reads_of script) else 12
+status_of script = if is_short script then status_from 1 empty (reads_of script) else 12

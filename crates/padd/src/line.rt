@@ -1,9 +1,9 @@
 //! One line of a script, played.
 
-ghost use Rattle.std.specs.Prelude.{◌≡◌, Ok};
+ghost use Rattle.std.specs.Prelude.{◌≡◌, ℕ, Ok};
+ghost use Rattle.ep_schedule.specs.World.{WorldState};
 ghost use Rattle.ep_script.specs.declared.line.Line.TheVariants as line;
 ghost use Rattle.ep_script.specs.Line.{line_of};
-ghost use Rattle.ep_world.specs.World.{WorldState};
 ghost use Rattle.ep_world.specs.StandsFor.{StandsFor, IsReached};
 ghost use Rattle.padd.specs.Played.{PlaysLine};
 
@@ -64,7 +64,7 @@ impl From<LineBad> for Stop {
 /// Plays the bytes of a line, and answers what it writes. After want of memory the step may be made.
 pub fn play_line(alloc: Global, world: &mut World, bytes: &[u8]) -> Result<String, Stop>
     requires { IsReached world.old }
-    ensures { (w : WorldState) → StandsFor world.old w → PlaysLine w (line_of bytes.now) result world.new }
+    ensures { (w : WorldState) (k : ℕ) → StandsFor world.old w → PlaysLine w k (line_of bytes.now) result world.new }
 {
     match read_line(alloc, bytes)? {
         Line::Blank => Ok(String::new(alloc)),
@@ -77,7 +77,7 @@ pub fn play_line(alloc: Global, world: &mut World, bytes: &[u8]) -> Result<Strin
 
 fn play_event(alloc: Global, world: &mut World, event: &Event) -> Result<String, Stop>
     requires { IsReached world.old }
-    ensures { (w : WorldState) → StandsFor world.old w → PlaysLine w (Ok (line.Event event.now)) result world.new }
+    ensures { (w : WorldState) (k : ℕ) → StandsFor world.old w → PlaysLine w k (Ok (line.Event event.now)) result world.new }
 {
     let shown = world.step(alloc, event)?;
     Ok(print_shown(alloc, &shown)?)
@@ -85,7 +85,7 @@ fn play_event(alloc: Global, world: &mut World, event: &Event) -> Result<String,
 
 fn show(alloc: Global, world: &World, name: &Units) -> Result<String, Stop>
     requires { IsReached world.now }
-    ensures { (w : WorldState) → StandsFor world.now w → PlaysLine w (Ok (line.Show name.now)) result world.now }
+    ensures { (w : WorldState) (k : ℕ) → StandsFor world.now w → PlaysLine w k (Ok (line.Show name.now)) result world.now }
 {
     let shown = world.view(alloc, name)?;
     Ok(print_shown(alloc, &shown)?)
@@ -93,7 +93,7 @@ fn show(alloc: Global, world: &World, name: &Units) -> Result<String, Stop>
 
 fn show_head(alloc: Global, world: &World) -> Result<String, Stop>
     requires { IsReached world.now }
-    ensures { (w : WorldState) → StandsFor world.now w → PlaysLine w (Ok line.Head) result world.now }
+    ensures { (w : WorldState) (k : ℕ) → StandsFor world.now w → PlaysLine w k (Ok line.Head) result world.now }
 {
     let shown = world.head(alloc)?;
     Ok(print_shown(alloc, &shown)?)

@@ -6,7 +6,7 @@ ghost use Rattle.std.specs.Io.KnownBytes.{Appends};
 ghost use Rattle.ep_outside.specs.Outside.{HasRisen, Reads, TakesPart};
 ghost use Rattle.padd.specs.Standard.{ReadsOn};
 
-use ep_outside::{Failed, Got, Sink, Source};
+use ep_outside::{Device, Failed, Got, Sink, Source};
 use std::io::{Read, Write};
 
 /// A reader as a source.
@@ -19,17 +19,15 @@ pub struct StdSource<R> {
 impl<R: Read> StdSource<R> {
     pub fn new(reader: R) -> StdSource<R>
         ensures reader { result.reader ≡ reader }
-        ensures faultless { ⟦<StdSource<R> as Source>⟧.failures result ≡ 0 }
+        ensures faultless { ⟦<StdSource<R> as Device>⟧.failures result ≡ 0 }
     {
         StdSource { reader, faults: 0 }
     }
 }
 
-impl<R: Read> Source for StdSource<R> {
-    ghost use Rattle.std.specs.Prelude.{None, false};
+impl<R: Read> Device for StdSource<R> {
+    ghost use Rattle.std.specs.Prelude.{false};
     ghost use Rattle.std.proofs.Common.{sym, true≢false};
-
-    ghost left = { λ _. None };
 
     ghost failures = { λ s. s.faults };
 
@@ -40,6 +38,12 @@ impl<R: Read> Source for StdSource<R> {
     fn faults(&self) -> u64 {
         self.faults
     }
+}
+
+impl<R: Read> Source for StdSource<R> {
+    ghost use Rattle.std.specs.Prelude.{None};
+
+    ghost left = { λ _. None };
 
     fn read(&mut self, room: &mut [u8]) -> Got
         requires { 0 < length room.old }
@@ -69,17 +73,15 @@ pub struct StdSink<W> {
 impl<W: Write> StdSink<W> {
     pub fn new(writer: W) -> StdSink<W>
         ensures writer { result.writer ≡ writer }
-        ensures faultless { ⟦<StdSink<W> as Sink>⟧.failures result ≡ 0 }
+        ensures faultless { ⟦<StdSink<W> as Device>⟧.failures result ≡ 0 }
     {
         StdSink { writer, faults: 0 }
     }
 }
 
-impl<W: Write> Sink for StdSink<W> {
-    ghost use Rattle.std.specs.Prelude.{None, false};
+impl<W: Write> Device for StdSink<W> {
+    ghost use Rattle.std.specs.Prelude.{false};
     ghost use Rattle.std.proofs.Common.{sym, true≢false};
-
-    ghost held = { λ _. None };
 
     ghost failures = { λ s. s.faults };
 
@@ -90,6 +92,12 @@ impl<W: Write> Sink for StdSink<W> {
     fn faults(&self) -> u64 {
         self.faults
     }
+}
+
+impl<W: Write> Sink for StdSink<W> {
+    ghost use Rattle.std.specs.Prelude.{None};
+
+    ghost held = { λ _. None };
 
     fn write(&mut self, bytes: &[u8]) -> Result<(), Failed>
         ensures writer { OnOk result (Appends (W.contents self.old.writer) (W.contents self.new.writer) bytes.now) }

@@ -1,7 +1,7 @@
 //! The program over a text and a page in memory.
 
 use super::*;
-use ep_outside::{Failed, Got};
+use ep_outside::{Device, Failed, Got};
 use std::test::Fail;
 
 /// A text that gives at most three bytes a read.
@@ -25,11 +25,9 @@ impl<'a> Text<'a> {
     }
 }
 
-impl<'a> Source for Text<'a> {
-    ghost use Rattle.std.specs.Prelude.{Some, false};
+impl<'a> Device for Text<'a> {
+    ghost use Rattle.std.specs.Prelude.{false};
     ghost use Rattle.std.proofs.Common.{true≢false, sym};
-
-    ghost left = { λ t. Some t.left.now };
 
     ghost failures = { λ t. t.faults };
 
@@ -40,6 +38,12 @@ impl<'a> Source for Text<'a> {
     fn faults(&self) -> u64 {
         self.faults
     }
+}
+
+impl<'a> Source for Text<'a> {
+    ghost use Rattle.std.specs.Prelude.{Some};
+
+    ghost left = { λ t. Some t.left.now };
 
     fn read(&mut self, room: &mut [u8]) -> Got {
         self.reads = self.reads.saturating_add(1);
@@ -78,11 +82,9 @@ impl Page {
     }
 }
 
-impl Sink for Page {
-    ghost use Rattle.std.specs.Prelude.{Some, false};
+impl Device for Page {
+    ghost use Rattle.std.specs.Prelude.{false};
     ghost use Rattle.std.proofs.Common.{true≢false, sym};
-
-    ghost held = { λ p. Some p.held.items };
 
     ghost failures = { λ p. p.faults };
 
@@ -93,6 +95,12 @@ impl Sink for Page {
     fn faults(&self) -> u64 {
         self.faults
     }
+}
+
+impl Sink for Page {
+    ghost use Rattle.std.specs.Prelude.{Some};
+
+    ghost held = { λ p. Some p.held.items };
 
     fn write(&mut self, bytes: &[u8]) -> Result<(), Failed> {
         self.writes = self.writes.saturating_add(1);

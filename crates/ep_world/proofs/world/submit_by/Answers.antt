@@ -5,5 +5,5 @@ use Rattle.ep_world.proofs.Cases.{named}
 use Rattle.ep_world.proofs.world.submit_by.Goals as goal
 
 pub returns-then-is_named : goal.returns-then-is_named
-returns-then-is_named c = λ pad w h.
-    named (Submit) pad c.in-Some.client c.submit.new.self c.args.name.now c.submit.result w (subst (λ o. Stands pad o w) c.in-Some.is h) (sym c.is_named.ensures ∙ c.if-is_named.true) c.submit.ensures
+returns-then-is_named c = λ pad w now h.
+    named (Submit) pad c.in-Some.client c.submit.new.self c.args.name.now c.submit.result w now (subst (λ o. Stands pad o w) c.in-Some.is h) (sym c.is_named.ensures ∙ c.if-is_named.true) c.submit.ensures
