@@ -1,12 +1,12 @@
 //! What is asked for, done.
 
+use crate::calc::{all_fit, applied, composed, followed, rebased};
 use crate::call::{Call, Stretch, Written};
 use crate::members::Member;
 use crate::refusal::Stop;
 use crate::reply::{change_reply, doc_reply, fits_reply, slides_reply};
 use ep_apply::{Doc, fits};
 use ep_attr::{Attr, AttrMap};
-use ep_calc::{all_fit, applied, composed, followed, rebased};
 use ep_cs::{Change, First};
 use ep_csread::{read, read_attribs};
 use ep_invert::{invert, paint, splice};

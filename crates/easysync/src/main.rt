@@ -2,6 +2,8 @@
 #![tactic(auto)]
 
 mod answer;
+mod calc;
+mod calc_bad;
 mod call;
 mod carry_out;
 mod members;

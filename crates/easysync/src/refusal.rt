@@ -1,7 +1,7 @@
 //! Why a request is refused.
 
+use crate::calc_bad::CalcBad;
 use crate::members::Member;
-use ep_calc::CalcBad;
 use ep_cs::FitBad;
 use ep_csread::ReadBad;
 use ep_invert::SpliceBad;

@@ -16,7 +16,7 @@ use Rattle.ep_cs.specs.Fits.{Fits, goes_on, keeps_pairs}
 use Rattle.ep_cs.proofs.Items.{length-settle}
 use Rattle.ep_cs.proofs.Plain.{length-text_of}
 use Rattle.ep_cs.proofs.Splices.{splice-nothing}
-use Rattle.ep_apply.specs.Fitting.{first_cut}
+use Rattle.ep_cs.specs.Fitting.{first_cut}
 use Rattle.ep_cursor.proofs.Made.{passed-append, passed_times}
 use Rattle.ep_invert.specs.declared.bad.SpliceBad.{SpliceBad}
 use Rattle.ep_invert.specs.declared.bad.SpliceBad.TheVariants as bad

@@ -2,7 +2,7 @@
 use Rattle.std.specs.Prelude.{ℕ, nat_lt, length, if◌then◌else◌, Option, Some, None, Result, Ok, Err}
 use Rattle.ep_cs.specs.Doc.{Doc, text_of}
 use Rattle.ep_cs.specs.Edit.{Edit}
-use Rattle.ep_apply.specs.Fitting.{first_cut}
+use Rattle.ep_cs.specs.Fitting.{first_cut}
 use Rattle.ep_invert.specs.declared.bad.SpliceBad.{SpliceBad}
 use Rattle.ep_invert.specs.declared.bad.SpliceBad.TheVariants.{Place, CutsPair, NoMemory}
 

@@ -11,8 +11,6 @@ mod painting;
 mod restoring;
 mod splicing;
 mod stretch;
-#[cfg(test)]
-mod tests;
 mod undoing;
 mod writing;
 

@@ -7,8 +7,6 @@
 mod bad;
 mod laws;
 mod sliding;
-#[cfg(test)]
-mod tests;
 
 pub use bad::SlideBad;
 pub use laws::{slides_lead_on, slides_take_back};

@@ -5,9 +5,9 @@ use Rattle.ep_cs.specs.Edit.{apply}
 use Rattle.ep_cs.specs.Change.{Change}
 use Rattle.ep_cs.specs.Fits.{Fits}
 use Rattle.ep_cs.specs.Made.{AreMade}
-use Rattle.ep_calc.specs.Unfit.{IsUnfit, IsUnfitAmong}
-use Rattle.ep_calc.specs.declared.bad.CalcBad.{CalcBad}
-use Rattle.ep_calc.specs.declared.bad.CalcBad.TheVariants as bad
+use Rattle.easysync.specs.Unfit.{IsUnfit, IsUnfitAmong}
+use Rattle.easysync.specs.declared.calc_bad.CalcBad.{CalcBad}
+use Rattle.easysync.specs.declared.calc_bad.CalcBad.TheVariants as bad
 
 -- what is found of the changes that are left is so of all
 pub record StandsFor (all rest : List Change) (doc now : Doc) : Type 0 where

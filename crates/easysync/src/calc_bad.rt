@@ -2,21 +2,18 @@
 
 use ep_cs::FitBad;
 use ep_units::NoMemory;
-use thiserror::Error;
 
 /// Why a call isn't made.
-#[derive(Clone, Copy, Debug, Error, PartialEq, Eq)]
+#[derive(Clone, Copy, Debug, PartialEq, Eq)]
 pub enum CalcBad {
     /// A change doesn't fit the document that it is for.
-    #[error("{0}")]
     Fit(FitBad),
-    #[error("out of memory")]
     NoMemory,
 }
 
 impl From<NoMemory> for CalcBad {
     ghost use Rattle.std.specs.Prelude.{◌≡◌};
-    ghost use Rattle.ep_calc.specs.declared.bad.CalcBad.TheVariants as bad;
+    ghost use Rattle.easysync.specs.declared.calc_bad.CalcBad.TheVariants as bad;
 
     ghost from_gives = { λ _ e. e ≡ bad.NoMemory };
 
@@ -27,7 +24,7 @@ impl From<NoMemory> for CalcBad {
 
 impl From<FitBad> for CalcBad {
     ghost use Rattle.std.specs.Prelude.{◌≡◌};
-    ghost use Rattle.ep_calc.specs.declared.bad.CalcBad.TheVariants as bad;
+    ghost use Rattle.easysync.specs.declared.calc_bad.CalcBad.TheVariants as bad;
 
     ghost from_gives = { λ why e. e ≡ bad.Fit why };
 

@@ -4,9 +4,9 @@ use Rattle.ep_cs.specs.Doc.{Doc}
 use Rattle.ep_cs.specs.Edit.{apply}
 use Rattle.ep_cs.specs.Change.{Change}
 use Rattle.ep_cs.specs.Fits.{Fits}
-use Rattle.ep_apply.specs.Fitting.{answer, fit_bad}
-use Rattle.ep_calc.specs.declared.bad.CalcBad.{CalcBad}
-use Rattle.ep_calc.specs.declared.bad.CalcBad.TheVariants as bad
+use Rattle.ep_cs.specs.Fitting.{answer, fit_bad}
+use Rattle.easysync.specs.declared.calc_bad.CalcBad.{CalcBad}
+use Rattle.easysync.specs.declared.calc_bad.CalcBad.TheVariants as bad
 
 -- the first reason why a change doesn't fit; want of memory says nothing of it
 abbrev pub IsUnfit : CalcBad → Change → Doc → Type 0
