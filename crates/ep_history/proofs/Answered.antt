@@ -1,5 +1,5 @@
 -- What a machine replies: a refusal changes nothing, and an admissible edit is committed.
-use Rattle.std.proofs.Common.{◌≡◌, ℕ, ◌-◌, Bool, true, false, if◌then◌else◌, List, [], ◌∷◌, ◌++◌, inl, inr, length, Option, Some, None, Err, refl, sym, ap, ◌∙◌, subst}
+use Rattle.std.proofs.Common.{◌⊎◌, ◌≡◌, ℕ, ◌-◌, Bool, true, false, if◌then◌else◌, List, [], ◌∷◌, ◌++◌, inl, inr, length, Option, Some, None, Err, refl, sym, ap, ◌∙◌, subst}
 use Rattle.ep_units.specs.declared.session.Session.{Session}
 use Rattle.ep_units.specs.Text.{is_well_formed}
 use Rattle.ep_attr.proofs.SameMap.{both_true, first_true}
@@ -25,9 +25,10 @@ use Rattle.ep_history.specs.Entries.{Entry, Outcome, Reply, outcome, unless, is_
 use Rattle.ep_history.specs.Entries.Answer.{CommitAnswer}
 use Rattle.ep_history.specs.Entries.Entry.{Accept}
 use Rattle.ep_history.specs.Entries.Outcome.{Refuses, Answers, Records}
-use Rattle.ep_history.specs.Machine.{MachineState, Size, Turn, CommitsUnless, IsOpenStep, IsClosedStep, IsStep, IsStepAs, IsThen, StaysAs, file_bytes, journal_fault, keeping, most_bytes, reopening, turn, turn_of}
-use Rattle.ep_history.specs.Machine.IsOpenStep.{Does, Lacks, Fails, FailsKept}
-use Rattle.ep_history.specs.Machine.IsClosedStep.{Opens, IsFull, LacksOpening, LacksOpened, FailsOpening, FailsOpened}
+use Rattle.ep_history.specs.Machine.{MachineState, Size, Turn, CommitsUnless, IsOpenStep, IsFoundStep, IsClosedStep, IsStep, IsStepAs, IsThen, StaysAs, file_bytes, journal_fault, keeping, most_bytes, reopening, settled, turn, turn_of}
+use Rattle.ep_history.specs.Machine.IsOpenStep.{Does, Lacks, Fails}
+use Rattle.ep_history.specs.Machine.IsFoundStep.{Opens, IsFull, FailsOpened}
+use Rattle.ep_history.specs.Machine.IsClosedStep.{Finds, LacksOpening, FailsOpening}
 use Rattle.ep_history.specs.declared.pad_bad.PadBad.{PadBad}
 use Rattle.ep_history.specs.declared.pad_bad.PadBad.TheVariants.{JournalFull, Store}
 use Rattle.ep_history.specs.declared.record.Record.{Record}
@@ -67,17 +68,19 @@ open-stays : (size : Size) (st : MachineState) (e : Entry) (reply : Reply) (new 
 open-stays size st e reply new bad h other (Does r t) =
     subst (λ x. IsThen x new) (turn-stays size st (is_recordable e) (outcome st.pad e) bad (sym r ∙ h)) t
 open-stays size st e reply new bad h other (Lacks r t) = t
-open-stays size st e reply new bad h other (Fails count r f t) = absurd (other count cc)
-open-stays size st e reply new bad h other (FailsKept count r f t) = absurd (other count cc)
+open-stays size st e reply new bad h other (Fails count r adds q f t) = absurd (other count cc)
+
+found-stays : (size : Size) (st : MachineState) (e : Entry) (reply : Reply) (new : MachineState) (bad : PadBad)
+    → reply ≡ Err bad → ((count : ℕ) → bad ≡ Store count → ⊥) → IsFoundStep size st e reply new → IsThen st new ⊎ IsThen (reopening st) new
+found-stays size st e reply new bad h other (Opens f step) = inr (open-stays size (reopening st) e reply new bad h other step)
+found-stays size st e reply new bad h other (IsFull full f r t) = inl t
+found-stays size st e reply new bad h other (FailsOpened count f r g t) = absurd (other count cc)
 
 closed-stays : (size : Size) (st : MachineState) (e : Entry) (reply : Reply) (new : MachineState) (bad : PadBad)
     → reply ≡ Err bad → ((count : ℕ) → bad ≡ Store count → ⊥) → IsClosedStep size st e reply new → StaysAs false st new
-closed-stays size st e reply new bad h other (Opens f step) = inr (inl (open-stays size (reopening st) e reply new bad h other step))
-closed-stays size st e reply new bad h other (IsFull full f r t) = inl t
+closed-stays size st e reply new bad h other (Finds kept step) = inr (kept, found-stays size (settled kept st) e reply new bad h other step)
 closed-stays size st e reply new bad h other (LacksOpening r t) = inl t
-closed-stays size st e reply new bad h other (LacksOpened f r t) = inr (inr t)
 closed-stays size st e reply new bad h other (FailsOpening count r f t) = inl t
-closed-stays size st e reply new bad h other (FailsOpened count f r g t) = inr (inr t)
 
 pub refused-stays : (size : Size) (st : MachineState) (e : Entry) (bad : PadBad) (new : MachineState)
     → IsStep size st e (Err bad) new → ((count : ℕ) → bad ≡ Store count → ⊥) → StaysAs st.is_open st new
@@ -133,8 +136,7 @@ admitted size st s now base c reply new normal a step = go step
     go : IsOpenStep size st (Accept s base c now) reply new → CommitsUnless st told r pad reply new
     go (Does e t) = subst (λ x. CommitsUnless st told r pad x new) (sym e) (subst (λ x. CommitsUnless st told r pad (turn size st (Accept s base c now)).reply x) (sym t.0) (turned new.faults))
     go (Lacks e t) = subst (λ x. CommitsUnless st told r pad x new) (sym e) tt
-    go (Fails count e h t) = subst (λ x. CommitsUnless st told r pad x new) (sym e) tt
-    go (FailsKept count e h t) = subst (λ x. CommitsUnless st told r pad x new) (sym e) tt
+    go (Fails count q adds e h t) = subst (λ x. CommitsUnless st told r pad x new) (sym e) tt
 
 -- what is told has the change that was brought to the head
 pub commit-rebased : (pad : PadState) (base : ℕ) (e : Edit) → (commit pad (at_head pad base e)).change.edit ≡ rebase (newest pad) e base (head (newest pad))

@@ -15,14 +15,15 @@ use Rattle.ep_history.specs.Pad.{PadState, birth_at, create, is_live, newest, ne
 use Rattle.ep_history.specs.Entry.{opened}
 use Rattle.ep_history.specs.Refusals.{login_fault, resume_fault, resume_faults}
 use Rattle.ep_history.specs.Readings.{CatchUp, Fetched, Piece, Welcome, catch_up, fetch, fetch_fault, fetch_faults, fetch_size, history, history_fault, history_faults, nop_heads, revs_behind, welcome}
-use Rattle.ep_history.specs.Records.{IsKept, create_record}
+use Rattle.ep_history.specs.Records.{create_record}
 use Rattle.ep_history.specs.Entries.{Answer, Entry, Outcome, Reply, is_recordable, logs_in, outcome, unless}
 use Rattle.ep_history.specs.Entries.Answer.{FetchAnswer, HistoryAnswer, LoginAnswer, ResumeAnswer}
 use Rattle.ep_history.specs.Entries.Entry.{Login, Resume, Fetch, ReadHistory}
 use Rattle.ep_history.specs.Entries.Outcome.{Refuses, Answers, Records}
-use Rattle.ep_history.specs.Machine.{Call, IsClosedStep, IsOpenStep, IsStep, IsStepAs, MachineState, Runs, Size, journal_fault, keeping, reopening, turn_of}
-use Rattle.ep_history.specs.Machine.IsOpenStep.{Does, Lacks, Fails, FailsKept}
-use Rattle.ep_history.specs.Machine.IsClosedStep.{Opens, IsFull, LacksOpening, LacksOpened, FailsOpening, FailsOpened}
+use Rattle.ep_history.specs.Machine.{Call, IsClosedStep, IsFoundStep, IsKeptState, IsOpenStep, IsStep, IsStepAs, MachineState, Runs, Size, journal_fault, keeping, reopening, settled, turn_of}
+use Rattle.ep_history.specs.Machine.IsOpenStep.{Does, Lacks, Fails}
+use Rattle.ep_history.specs.Machine.IsFoundStep.{Opens, IsFull, FailsOpened}
+use Rattle.ep_history.specs.Machine.IsClosedStep.{Finds, LacksOpening, FailsOpening}
 use Rattle.ep_history.specs.Fetches.{AreBehind, AreNops, GoOn, IsPart, TellOn, all_given, all_told, fetch_start, fetch_told, fetched_nops, fetched_revs, given, told_nops}
 use Rattle.ep_history.specs.declared.pad_bad.PadBad.{PadBad}
 use Rattle.ep_history.specs.declared.pad_bad.PadBad.TheVariants.{BadRev, NoRev}
@@ -32,8 +33,8 @@ use Rattle.ep_history.specs.declared.seat.Seat.{Seat}
 use Rattle.ep_history.proofs.Lists.{none_some, some_same}
 use Rattle.ep_history.proofs.Refused.{none-of, not-if, not-less}
 use Rattle.ep_history.proofs.Births.{numbered-newest}
-use Rattle.ep_history.proofs.Steps.{dead-live, reopening-kept, runs-kept, step-kept}
-use Rattle.ep_history.proofs.Growing.{IsGrown, IsOf, grown-doc, of-reopened, runs-later, step-later, step-of}
+use Rattle.ep_history.proofs.Steps.{dead-live, runs-kept, step-kept}
+use Rattle.ep_history.proofs.Growing.{IsGrown, IsOf, grown-doc, runs-later, settled-past, step-later, step-of}
 
 -- ---- what is answered
 
@@ -65,13 +66,12 @@ open-answers size st e answer reply new h (Does r t) =
     subst (λ (x : MachineState). IsAnswered (outcome st.pad e) answer x.pad × (x.is_open ≡ st.is_open)) (sym t.0)
     (turn-answers size st (is_recordable e) (outcome st.pad e) answer (sym r ∙ h))
 open-answers size st e answer reply new h (Lacks r t) = absurd cc
-open-answers size st e answer reply new h (Fails count r f t) = absurd cc
-open-answers size st e answer reply new h (FailsKept count r f t) = absurd cc
+open-answers size st e answer reply new h (Fails count r adds q f t) = absurd cc
 
 -- an answer is that of an open machine: this one, or as it is opened
 record IsAnswering (st : MachineState) (e : Entry) (answer : Answer) (new : MachineState) : Type 0 where
   pub mid : MachineState
-  pub from : (mid ≡ st) ⊎ (mid ≡ reopening st)
+  pub from : (mid ≡ st) ⊎ ((kept : Bool) × (mid ≡ reopening (settled kept st)))
   pub is_open : mid.is_open ≡ true
   pub answered : IsAnswered (outcome mid.pad e) answer new.pad
   pub stays : new.is_open ≡ true
@@ -79,30 +79,22 @@ record IsAnswering (st : MachineState) (e : Entry) (answer : Answer) (new : Mach
 step-answers : (size : Size) (st : MachineState) (e : Entry) (answer : Answer) (new : MachineState) → IsStep size st e (Ok answer) new → IsAnswering st e answer new
 step-answers size st e answer new = go st.is_open refl
   where
+    found-answers : (kept : Bool) (reply : Reply) → reply ≡ Ok answer → IsFoundStep size (settled kept st) e reply new → IsAnswering st e answer new
+    found-answers kept reply h (Opens f step) =
+        let mid = reopening (settled kept st) in
+        let a = open-answers size mid e answer reply new h step in
+        record { mid = mid; from = inr (kept, refl); is_open = refl; answered = a.0; stays = a.1 }
+    found-answers kept reply h (IsFull full f r t) = absurd cc
+    found-answers kept reply h (FailsOpened count f r g t) = absurd cc
+
     closed-answers : (reply : Reply) → reply ≡ Ok answer → IsClosedStep size st e reply new → IsAnswering st e answer new
-    closed-answers reply h (Opens f step) =
-        let a = open-answers size (reopening st) e answer reply new h step in record { mid = reopening st; from = inr refl; is_open = refl; answered = a.0; stays = a.1 }
-    closed-answers reply h (IsFull full f r t) = absurd cc
+    closed-answers reply h (Finds kept step) = found-answers kept reply h step
     closed-answers reply h (LacksOpening r t) = absurd cc
-    closed-answers reply h (LacksOpened f r t) = absurd cc
     closed-answers reply h (FailsOpening count r f t) = absurd cc
-    closed-answers reply h (FailsOpened count f r g t) = absurd cc
 
     go : (b : Bool) → st.is_open ≡ b → IsStepAs b size st e (Ok answer) new → IsAnswering st e answer new
     go true b step = let a = open-answers size st e answer (Ok answer) new refl step in record { mid = st; from = inl refl; is_open = b; answered = a.0; stays = a.1 ∙ b }
     go false b step = closed-answers (Ok answer) refl step
-
-mid-kept : (st mid : MachineState) → IsKept st.records st.pad → (mid ≡ st) ⊎ (mid ≡ reopening st) → IsKept mid.records mid.pad
-mid-kept st mid k (inl e) = subst (λ (x : MachineState). IsKept x.records x.pad) (sym e) k
-mid-kept st mid k (inr e) = subst (λ (x : MachineState). IsKept x.records x.pad) (sym e) (reopening-kept st k)
-
-mid-of : (s : Session) (k : ℕ) (st mid : MachineState) → IsOf s k st.pad st.is_open → (mid ≡ st) ⊎ (mid ≡ reopening st) → IsOf s k mid.pad mid.is_open
-mid-of s k st mid o (inl e) = subst (λ (x : MachineState). IsOf s k x.pad x.is_open) (sym e) o
-mid-of s k st mid o (inr e) = subst (λ (x : MachineState). IsOf s k x.pad x.is_open) (sym e) (of-reopened s k st.pad st.is_open true o)
-
-mid-birth : (k : ℕ) (st mid : MachineState) → (mid ≡ st) ⊎ (mid ≡ reopening st) → birth_at mid.pad k ≡ birth_at st.pad k
-mid-birth k st mid (inl e) = ap (λ (x : MachineState). birth_at x.pad k) e
-mid-birth k st mid (inr e) = ap (λ (x : MachineState). birth_at x.pad k) e
 
 -- ---- parts of a list
 
@@ -189,6 +181,22 @@ fetches-of s t k pad from o same f =
     alive : (l : Seat) → l.end ≡ None → is_live l ≡ true
     alive l e = ap (λ o. not (is_some o)) e
 
+-- a session that a fetch is answered is of this opening, and its birth is the last one
+answered-birth : (s t : Session) (k : ℕ) (st mid : MachineState) (from : ℕ) → IsOf s k st.pad st.is_open → (mid ≡ st) ⊎ ((kept : Bool) × (mid ≡ reopening (settled kept st)))
+    → mid.is_open ≡ true → is_session t s ≡ true → fetch_fault mid.pad t from ≡ None → newest mid.pad ≡ birth_at st.pad k
+answered-birth s t k st mid from o (inl e) b same f =
+    let here : IsOf s k mid.pad mid.is_open = subst (λ (x : MachineState). IsOf s k x.pad x.is_open) (sym e) o in
+    let n = fetches-of s t k mid.pad from (subst (λ c. IsOf s k mid.pad c) b here) same f in
+    ap (birth_at mid.pad) (sym n) ∙ ap (λ (x : MachineState). birth_at x.pad k) e
+answered-birth s t k st mid from o (inr (kept, e)) b same f =
+    let live = dead-live mid.pad t (none-of (fetch_faults mid.pad t from) f).0 in
+    let seat = (seat-at mid.pad t live.0 live.1).0 in
+    let id = (same-session t s same).0 in
+    let epoch : mid.pad.epoch ≡ suc (settled kept st).pad.epoch = ap (λ (x : MachineState). x.pad.epoch) e in
+    let past = o.past in
+    let later = settled-past kept st in
+    absurd (omega (arith, seat, id, epoch, past, later))
+
 -- what a call gave a session stands in its birth behind where its fetches have come
 call-behind : (size : Size) (s : Session) (k : ℕ) (st : MachineState) (e : Entry) (reply : Reply) (new : MachineState) (r : ℕ) → IsOf s k st.pad st.is_open
     → IsStep size st e reply new → ((from : ℕ) → fetch_start s e ≡ Some from → is_ok reply ≡ true → from ≡ r) → r ≤ head (birth_at st.pad k)
@@ -209,8 +217,7 @@ call-behind size s k st (Fetch t from told) (Ok answer) new r o step on h = go (
     go true same on =
         let pad = a.mid.pad in
         let u = unless-answers (fetch_fault pad t from) (Answers (FetchAnswer (fetch pad t from told)) pad) answer new.pad a.answered in
-        let n = fetches-of s t k pad from (subst (λ b. IsOf s k pad b) a.is_open (mid-of s k st a.mid o a.from)) same u.0 in
-        let b : newest pad ≡ birth_at st.pad k = ap (birth_at pad) (sym n) ∙ mid-birth k st a.mid a.from in
+        let b = answered-birth s t k st a.mid from o a.from a.is_open same u.0 in
         subst (λ (x : Answer). AreBehind (birth_at st.pad k) r (fetched_revs (Ok x))) u.1.0
         (subst (λ (c : Birth). AreBehind (birth_at st.pad k) r (revs_behind c from fetch_size)) (sym b)
         (subst (λ i. AreBehind (birth_at st.pad k) r (revs_behind (birth_at st.pad k) i fetch_size)) (sym (on from refl refl)) (some-part (birth_at st.pad k).later r fetch_size h)))
@@ -242,8 +249,7 @@ call-told size s k st (Fetch t from told) (Ok answer) new i o step on h = go (is
     go true same on =
         let pad = a.mid.pad in
         let u = unless-answers (fetch_fault pad t from) (Answers (FetchAnswer (fetch pad t from told)) pad) answer new.pad a.answered in
-        let n = fetches-of s t k pad from (subst (λ b. IsOf s k pad b) a.is_open (mid-of s k st a.mid o a.from)) same u.0 in
-        let b : newest pad ≡ birth_at st.pad k = ap (birth_at pad) (sym n) ∙ mid-birth k st a.mid a.from in
+        let b = answered-birth s t k st a.mid from o a.from a.is_open same u.0 in
         let id = same-session t s same in
         let r = from + length (revs_behind (newest pad) from fetch_size) in
         subst (λ (x : Answer). IsPart here i (fetched_nops (Ok x))) u.1.0
@@ -254,7 +260,7 @@ call-told size s k st e (Ok answer) new i o step on h = nothing-part (nop_heads 
 
 -- ---- a whole history
 
-pub all-behind : (size : Size) (s : Session) (k : ℕ) (st : MachineState) (calls : List Call) (last : MachineState) (r : ℕ) → IsKept st.records st.pad → IsOf s k st.pad st.is_open
+pub all-behind : (size : Size) (s : Session) (k : ℕ) (st : MachineState) (calls : List Call) (last : MachineState) (r : ℕ) → IsKeptState st → IsOf s k st.pad st.is_open
     → Runs size st calls last → GoOn s r calls → r ≤ head (birth_at st.pad k) → AreBehind (birth_at last.pad k) r (all_given s calls)
 all-behind size s k st [] last r g o run on h =
     nothing-part (birth_at last.pad k).later r (subst (λ (x : MachineState). r ≤ head (birth_at x.pad k)) (sym run) h)
@@ -269,7 +275,7 @@ all-behind size s k st (c ∷ cs) last r g o run on h =
     let grown = (runs-later size next cs last kept run.2).births k of.there in
     more-part (birth_at last.pad k).later r (given s c) (all_given s cs) (grown-behind (birth_at next.pad k) (birth_at last.pad k) grown r (given s c) here) rest
 
-pub all-told : (size : Size) (s : Session) (k : ℕ) (st : MachineState) (calls : List Call) (last : MachineState) (i : ℕ) → IsKept st.records st.pad → IsOf s k st.pad st.is_open
+pub all-told : (size : Size) (s : Session) (k : ℕ) (st : MachineState) (calls : List Call) (last : MachineState) (i : ℕ) → IsKeptState st → IsOf s k st.pad st.is_open
     → Runs size st calls last → TellOn s i calls → i ≤ length (nop_heads s (birth_at st.pad k)) → IsPart (nop_heads s (birth_at last.pad k)) i (all_told s calls)
 all-told size s k st [] last i g o run on h =
     nothing-part (nop_heads s (birth_at last.pad k)) i (subst (λ (x : MachineState). i ≤ length (nop_heads s (birth_at x.pad k))) (sym run) h)
@@ -366,7 +372,7 @@ resume-enters size st g rev birth author now w new step =
       within = subst (λ p. rev ≤ head (birth_at p (length pad.births))) (sym e) h;
     }
 
-pub login-behind : (size : Size) (first last : MachineState) (before after : List Call) (g : Grant) (now : ℕ) (w : Welcome) → IsKept first.records first.pad
+pub login-behind : (size : Size) (first last : MachineState) (before after : List Call) (g : Grant) (now : ℕ) (w : Welcome) → IsKeptState first
     → Runs size first (before ++ record { entry = Login g now; reply = Ok (LoginAnswer w) } ∷ after) last → GoOn w.session w.rev after
     → AreBehind (birth_at last.pad w.birth) w.rev (all_given w.session after) × (w.doc ≡ doc_at (birth_at last.pad w.birth) w.rev)
 login-behind size first last before after g now w kept run on =
@@ -381,7 +387,7 @@ login-behind size first last before after g now w kept run on =
       e.1 ∙ sym (grown-doc (birth_at next.pad w.birth) (birth_at last.pad w.birth) grown w.rev e.0.within),
     )
 
-pub resume-behind : (size : Size) (first last : MachineState) (before after : List Call) (g : Grant) (rev : ℕ) (birth : Option ℕ) (author : Option Text) (now : ℕ) (w : CatchUp) → IsKept first.records first.pad
+pub resume-behind : (size : Size) (first last : MachineState) (before after : List Call) (g : Grant) (rev : ℕ) (birth : Option ℕ) (author : Option Text) (now : ℕ) (w : CatchUp) → IsKeptState first
     → Runs size first (before ++ record { entry = Resume g rev birth author now; reply = Ok (ResumeAnswer w) } ∷ after) last → GoOn w.session rev after
     → AreBehind (birth_at last.pad w.birth) rev (all_given w.session after)
 resume-behind size first last before after g rev birth author now w kept run on =
@@ -391,7 +397,7 @@ resume-behind size first last before after g rev birth author now w kept run on 
     let e = resume-enters size m.0 g rev birth author now w m.2.0 m.2.1 in
     all-behind size w.session w.birth m.2.0 after last rev new e.of m.2.2 on e.within
 
-pub login-told : (size : Size) (first last : MachineState) (before after : List Call) (g : Grant) (now : ℕ) (w : Welcome) → IsKept first.records first.pad
+pub login-told : (size : Size) (first last : MachineState) (before after : List Call) (g : Grant) (now : ℕ) (w : Welcome) → IsKeptState first
     → Runs size first (before ++ record { entry = Login g now; reply = Ok (LoginAnswer w) } ∷ after) last → TellOn w.session 0 after
     → AreNops w.session (birth_at last.pad w.birth) (all_told w.session after)
 login-told size first last before after g now w kept run on =
@@ -401,7 +407,7 @@ login-told size first last before after g now w kept run on =
     let e = login-enters size m.0 g now w m.2.0 m.2.1 in
     all-told size w.session w.birth m.2.0 after last 0 new e.0.of m.2.2 on (omega arith)
 
-pub resume-told : (size : Size) (first last : MachineState) (before after : List Call) (g : Grant) (rev : ℕ) (birth : Option ℕ) (author : Option Text) (now : ℕ) (w : CatchUp) → IsKept first.records first.pad
+pub resume-told : (size : Size) (first last : MachineState) (before after : List Call) (g : Grant) (rev : ℕ) (birth : Option ℕ) (author : Option Text) (now : ℕ) (w : CatchUp) → IsKeptState first
     → Runs size first (before ++ record { entry = Resume g rev birth author now; reply = Ok (ResumeAnswer w) } ∷ after) last → TellOn w.session 0 after
     → AreNops w.session (birth_at last.pad w.birth) (all_told w.session after)
 resume-told size first last before after g rev birth author now w kept run on =

@@ -13,14 +13,15 @@ use Rattle.ep_history.specs.Refusals.{login_fault, resume_fault}
 use Rattle.ep_history.specs.Accept.{at_head, by_session, made_at_head, refusal}
 use Rattle.ep_history.specs.Server.{create_fault, create_faults, gone_fault, set_fault, set_text}
 use Rattle.ep_history.specs.Readings.{dead_fault, fetch_fault, history_fault, text_fault, welcome}
-use Rattle.ep_history.specs.Records.{IsKept, IsSoundPad, create_record, next_pad}
+use Rattle.ep_history.specs.Records.{IsKept, IsSoundPad, create_record, next_pad, told_from}
 use Rattle.ep_history.specs.Entries.{Entry, Outcome, Reply, is_recordable, logs_in, outcome, unless}
 use Rattle.ep_history.specs.Entries.Answer.{LoginAnswer}
 use Rattle.ep_history.specs.Entries.Entry.{Login, Resume, Accept, Fetch, Leave, Create, SetText, Delete, SetPublic, ReadText, ReadHistory, ReadStatus}
 use Rattle.ep_history.specs.Entries.Outcome.{Refuses, Answers, Records}
-use Rattle.ep_history.specs.Machine.{Call, IsClosedStep, IsOpenStep, IsStep, IsStepAs, IsThen, MachineState, Runs, Size, closed, journal_fault, keeping, reopening, turn, turn_of}
-use Rattle.ep_history.specs.Machine.IsOpenStep.{Does, Lacks, Fails, FailsKept}
-use Rattle.ep_history.specs.Machine.IsClosedStep.{Opens, IsFull, LacksOpening, LacksOpened, FailsOpening, FailsOpened}
+use Rattle.ep_history.specs.Machine.{Call, IsClosedStep, IsFoundStep, IsKeptState, IsOpenStep, IsStep, IsStepAs, IsThen, MachineState, Runs, Size, closed, journal_fault, keeping, open_record, reopening, settled, turn, turn_of}
+use Rattle.ep_history.specs.Machine.IsOpenStep.{Does, Lacks, Fails}
+use Rattle.ep_history.specs.Machine.IsFoundStep.{Opens, IsFull, FailsOpened}
+use Rattle.ep_history.specs.Machine.IsClosedStep.{Finds, LacksOpening, FailsOpening}
 use Rattle.ep_history.specs.declared.nop.Nop.{Nop}
 use Rattle.ep_history.specs.declared.pad_bad.PadBad.{PadBad}
 use Rattle.ep_history.specs.declared.pad_bad.PadBad.TheVariants.{Exists}
@@ -35,7 +36,7 @@ use Rattle.ep_history.proofs.Refused.{none-of, not-if}
 use Rattle.ep_history.proofs.Births.{created-at, longer, noting, nops-at, nops-count, revs-at, revs-count}
 use Rattle.ep_history.proofs.Sound.{end-ends}
 use Rattle.ep_history.proofs.Recorded.{at-live}
-use Rattle.ep_history.proofs.Steps.{IsGoodOutcome, outcome-good, reopening-kept, step-kept}
+use Rattle.ep_history.proofs.Steps.{IsGoodOutcome, next-epoch, outcome-good, reopening-kept, settled-kept, step-kept}
 
 -- ---- births
 
@@ -300,26 +301,36 @@ then-later pad st new l t = subst (λ (x : MachineState). AreLater pad x.pad) (s
 open-later : (size : Size) (st : MachineState) (e : Entry) (reply : Reply) (new : MachineState) → IsKept st.records st.pad → IsOpenStep size st e reply new → AreLater st.pad new.pad
 open-later size st e reply new k (Does r t) = then-later st.pad (turn size st e).state new (turned-later size st e k).0 t
 open-later size st e reply new k (Lacks r t) = then-later st.pad st new (later-same st.pad st.pad refl) t
-open-later size st e reply new k (Fails count r h t) = then-later st.pad (closed st) new (later-same st.pad st.pad refl) t
-open-later size st e reply new k (FailsKept count r h t) = then-later st.pad (closed (turn size st e).state) new (turned-later size st e k).0 t
+open-later size st e reply new k (Fails count r adds q h t) = then-later st.pad (closed r st) new (later-same st.pad st.pad refl) t
 
-closed-later : (size : Size) (st : MachineState) (e : Entry) (reply : Reply) (new : MachineState) → IsKept st.records st.pad → IsClosedStep size st e reply new → AreLater st.pad new.pad
-closed-later size st e reply new k (Opens f step) =
+found-later : (size : Size) (st : MachineState) (e : Entry) (reply : Reply) (new : MachineState) → IsKept st.records st.pad → IsFoundStep size st e reply new → AreLater st.pad new.pad
+found-later size st e reply new k (Opens f step) =
     later-twice st.pad (reopening st).pad new.pad (later-same st.pad (reopening st).pad refl) (open-later size (reopening st) e reply new (reopening-kept st k) step)
-closed-later size st e reply new k (IsFull full f r t) = then-later st.pad st new (later-same st.pad st.pad refl) t
-closed-later size st e reply new k (LacksOpening r t) = then-later st.pad st new (later-same st.pad st.pad refl) t
-closed-later size st e reply new k (LacksOpened f r t) = then-later st.pad (closed (reopening st)) new (later-same st.pad (reopening st).pad refl) t
-closed-later size st e reply new k (FailsOpening count r h t) = then-later st.pad st new (later-same st.pad st.pad refl) t
-closed-later size st e reply new k (FailsOpened count f r h t) = then-later st.pad (closed (reopening st)) new (later-same st.pad (reopening st).pad refl) t
+found-later size st e reply new k (IsFull full f r t) = then-later st.pad st new (later-same st.pad st.pad refl) t
+found-later size st e reply new k (FailsOpened count f r h t) = then-later st.pad (closed (open_record st) st) new (later-same st.pad st.pad refl) t
 
-pub step-later : (size : Size) (st : MachineState) (e : Entry) (reply : Reply) (new : MachineState) → IsKept st.records st.pad → IsStep size st e reply new → AreLater st.pad new.pad
+all-later : (pad : PadState) (rs : List Record) → AreLater pad (told_from pad rs)
+all-later pad [] = later-same pad pad refl
+all-later pad (r ∷ rs) = later-twice pad (next_pad pad r) (told_from (next_pad pad r) rs) (next-later pad r) (all-later (next_pad pad r) rs)
+
+pub settled-later : (kept : Bool) (st : MachineState) → AreLater st.pad (settled kept st).pad
+settled-later true st = all-later st.pad st.pending
+settled-later false st = later-same st.pad st.pad refl
+
+closed-later : (size : Size) (st : MachineState) (e : Entry) (reply : Reply) (new : MachineState) → IsKeptState st → IsClosedStep size st e reply new → AreLater st.pad new.pad
+closed-later size st e reply new k (Finds kept step) =
+    later-twice st.pad (settled kept st).pad new.pad (settled-later kept st) (found-later size (settled kept st) e reply new (settled-kept st kept k).kept step)
+closed-later size st e reply new k (LacksOpening r t) = then-later st.pad st new (later-same st.pad st.pad refl) t
+closed-later size st e reply new k (FailsOpening count r h t) = then-later st.pad st new (later-same st.pad st.pad refl) t
+
+pub step-later : (size : Size) (st : MachineState) (e : Entry) (reply : Reply) (new : MachineState) → IsKeptState st → IsStep size st e reply new → AreLater st.pad new.pad
 step-later size st e reply new k = go st.is_open
   where
     go : (b : Bool) → IsStepAs b size st e reply new → AreLater st.pad new.pad
-    go true step = open-later size st e reply new k step
+    go true step = open-later size st e reply new k.kept step
     go false step = closed-later size st e reply new k step
 
-pub runs-later : (size : Size) (st : MachineState) (calls : List Call) (last : MachineState) → IsKept st.records st.pad → Runs size st calls last → AreLater st.pad last.pad
+pub runs-later : (size : Size) (st : MachineState) (calls : List Call) (last : MachineState) → IsKeptState st → Runs size st calls last → AreLater st.pad last.pad
 runs-later size st [] last k r = later-same st.pad last.pad (ap (λ (x : MachineState). x.pad.births) r)
 runs-later size st (c ∷ cs) last k r =
     later-twice st.pad r.0.pad last.pad (step-later size st c.entry c.reply r.0 k r.1) (runs-later size r.0 cs last (step-kept size st c.entry c.reply r.0 k r.1) r.2)
@@ -342,7 +353,7 @@ of-later s k pad next b o l t = record {
       (m.0, m.1, λ v. old.2 (m.2 v).0 ∙ sym (m.2 v).1);
 }
 
-of-closed : (s : Session) (k : ℕ) (pad : PadState) (b : Bool) → IsOf s k pad b → IsOf s k pad false
+pub of-closed : (s : Session) (k : ℕ) (pad : PadState) (b : Bool) → IsOf s k pad b → IsOf s k pad false
 of-closed s k pad b o = record { past = o.past; there = o.there; seat = λ e. absurd (subst T (sym e) tt) }
 
 pub of-reopened : (s : Session) (k : ℕ) (pad : PadState) (b c : Bool) → IsOf s k pad b → IsOf s k (reopened pad) c
@@ -350,6 +361,23 @@ of-reopened s k pad b c o = record {
   past = let p = o.past in omega (arith, p);
   there = o.there;
   seat = λ _ e. let p = o.past in absurd (omega (arith, p, e));
+}
+
+-- the epoch never falls
+all-past : (pad : PadState) (rs : List Record) → pad.epoch ≤ (told_from pad rs).epoch
+all-past pad [] = omega arith
+all-past pad (r ∷ rs) = let a = next-epoch pad r in let b = all-past (next_pad pad r) rs in omega (arith, a, b)
+
+pub settled-past : (kept : Bool) (st : MachineState) → st.pad.epoch ≤ (settled kept st).pad.epoch
+settled-past true st = all-past st.pad st.pending
+settled-past false st = omega arith
+
+-- of a closed machine, whatever its opening finds
+settled-of : (s : Session) (k : ℕ) (kept : Bool) (st : MachineState) → IsOf s k st.pad false → IsOf s k (settled kept st).pad false
+settled-of s k kept st o = record {
+  past = let p = o.past in let e = settled-past kept st in omega (arith, p, e);
+  there = let p = o.there in let n = (settled-later kept st).count in omega (arith, p, n);
+  seat = λ e. absurd (subst T (sym e) tt);
 }
 
 then-of : (s : Session) (k : ℕ) (st new : MachineState) → IsOf s k st.pad st.is_open → IsThen st new → IsOf s k new.pad new.is_open
@@ -365,23 +393,30 @@ open-of size s k st e reply new g o b step = go step
     go : IsOpenStep size st e reply new → IsOf s k new.pad new.is_open
     go (Does r t) = then-of s k (turn size st e).state new (turned (turn size st e).state.is_open) t
     go (Lacks r t) = then-of s k st new (subst (λ c. IsOf s k st.pad c) (sym b) o) t
-    go (Fails count r h t) = then-of s k (closed st) new (of-closed s k st.pad true o) t
-    go (FailsKept count r h t) = then-of s k (closed (turn size st e).state) new (turned false) t
+    go (Fails count r adds q h t) = then-of s k (closed r st) new (of-closed s k st.pad true o) t
 
-closed-of : (size : Size) (s : Session) (k : ℕ) (st : MachineState) (e : Entry) (reply : Reply) (new : MachineState) → IsKept st.records st.pad → IsOf s k st.pad st.is_open
+found-of : (size : Size) (s : Session) (k : ℕ) (st : MachineState) (e : Entry) (reply : Reply) (new : MachineState) → IsKept st.records st.pad → IsOf s k st.pad false → st.is_open ≡ false
+    → IsFoundStep size st e reply new → IsOf s k new.pad new.is_open
+found-of size s k st e reply new g o b (Opens f step) =
+    open-of size s k (reopening st) e reply new (reopening-kept st g) (of-reopened s k st.pad false true o) refl step
+found-of size s k st e reply new g o b (IsFull full f r t) = then-of s k st new (subst (λ c. IsOf s k st.pad c) (sym b) o) t
+found-of size s k st e reply new g o b (FailsOpened count f r h t) = then-of s k (closed (open_record st) st) new o t
+
+settled-shut : (kept : Bool) (st : MachineState) → (settled kept st).is_open ≡ st.is_open
+settled-shut true st = refl
+settled-shut false st = refl
+
+closed-of : (size : Size) (s : Session) (k : ℕ) (st : MachineState) (e : Entry) (reply : Reply) (new : MachineState) → IsKeptState st → IsOf s k st.pad st.is_open → st.is_open ≡ false
     → IsClosedStep size st e reply new → IsOf s k new.pad new.is_open
-closed-of size s k st e reply new g o (Opens f step) =
-    open-of size s k (reopening st) e reply new (reopening-kept st g) (of-reopened s k st.pad st.is_open true o) refl step
-closed-of size s k st e reply new g o (IsFull full f r t) = then-of s k st new o t
-closed-of size s k st e reply new g o (LacksOpening r t) = then-of s k st new o t
-closed-of size s k st e reply new g o (LacksOpened f r t) = then-of s k (closed (reopening st)) new (of-reopened s k st.pad st.is_open false o) t
-closed-of size s k st e reply new g o (FailsOpening count r h t) = then-of s k st new o t
-closed-of size s k st e reply new g o (FailsOpened count f r h t) = then-of s k (closed (reopening st)) new (of-reopened s k st.pad st.is_open false o) t
+closed-of size s k st e reply new g o b (Finds kept step) =
+    found-of size s k (settled kept st) e reply new (settled-kept st kept g).kept (settled-of s k kept st (of-closed s k st.pad st.is_open o)) (settled-shut kept st ∙ b) step
+closed-of size s k st e reply new g o b (LacksOpening r t) = then-of s k st new o t
+closed-of size s k st e reply new g o b (FailsOpening count r h t) = then-of s k st new o t
 
-pub step-of : (size : Size) (s : Session) (k : ℕ) (st : MachineState) (e : Entry) (reply : Reply) (new : MachineState) → IsKept st.records st.pad → IsOf s k st.pad st.is_open
+pub step-of : (size : Size) (s : Session) (k : ℕ) (st : MachineState) (e : Entry) (reply : Reply) (new : MachineState) → IsKeptState st → IsOf s k st.pad st.is_open
     → IsStep size st e reply new → IsOf s k new.pad new.is_open
 step-of size s k st e reply new g o step = go st.is_open refl step
   where
     go : (b : Bool) → st.is_open ≡ b → IsStepAs b size st e reply new → IsOf s k new.pad new.is_open
-    go true b step = open-of size s k st e reply new g (subst (λ c. IsOf s k st.pad c) b o) b step
-    go false b step = closed-of size s k st e reply new g o step
+    go true b step = open-of size s k st e reply new g.kept (subst (λ c. IsOf s k st.pad c) b o) b step
+    go false b step = closed-of size s k st e reply new g o b step

@@ -118,7 +118,7 @@ abbrev size : Size
 size r = 9
 
 abbrev new : MachineState
-new = record { records = []; pad = told limits []; is_open = false; faults = 0 }
+new = record { records = []; pad = told limits []; is_open = false; pending = []; faults = 0 }
 
 journal_full : journal_fault size new (record_of.Open 1) ≡ Some (JournalFull 23)
 journal_full = refl
@@ -155,7 +155,7 @@ nops_behind = refl
 -- ---- after another opening
 
 abbrev shut : MachineState
-shut = record { records = []; pad = entered; is_open = false; faults = 1 }
+shut = record { records = []; pad = entered; is_open = false; pending = []; faults = 1 }
 
 -- a session of the older opening, and one of the new opening that was not made
 opened_anew : outcome (reopening shut).pad (Leave first) ≡ Refuses (Dead (Reopened 2))

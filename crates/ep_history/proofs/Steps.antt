@@ -1,5 +1,6 @@
 -- What holds of each state of a legal history.
-use Rattle.std.proofs.Common.{◌≡◌, ℕ, ◌≤◌, Bool, true, false, ◌&&◌, if◌then◌else◌, List, [], ◌∷◌, ◌++◌, length, Option, Some, None, refl, sym, ap, ◌∙◌, subst, T, arith}
+use Rattle.std.proofs.Common.{◌≡◌, ℕ, ◌≤◌, Bool, true, false, ◌&&◌, if◌then◌else◌, List, [], ◌∷◌, ◌++◌, length, Option, Some, None, refl, sym, ap, ◌∙◌, subst, T, arith, append_assoc, append-nil}
+use Rattle.std.proofs.lemmas.List.{length-append}
 use Rattle.ep_units.specs.Text.{Text}
 use Rattle.ep_units.specs.declared.session.Session.{Session}
 use Rattle.ep_units.specs.declared.grant.Grant.{Grant}
@@ -10,14 +11,15 @@ use Rattle.ep_history.specs.Refusals.{login_fault, resume_fault, resume_faults, 
 use Rattle.ep_history.specs.Accept.{refusal, committed}
 use Rattle.ep_history.specs.Server.{create_fault, set_fault, gone_fault, set_text}
 use Rattle.ep_history.specs.Readings.{end_of, dead_if, dead_fault, fetch_fault, text_fault, history_fault, welcome}
-use Rattle.ep_history.specs.Records.{AreLegal, IsNext, next_pad, told, told_from, unopened, without_sessions, IsKept, accept_record, create_record, set_record, IsSoundPad}
+use Rattle.ep_history.specs.Records.{AreLegal, AreNext, IsNext, next_pad, told, told_from, unopened, without_sessions, IsKept, accept_record, create_record, set_record, IsSoundPad}
 use Rattle.ep_history.specs.Entries.{Entry, Outcome, Reply, outcome, unless, logs_in, is_recordable}
 use Rattle.ep_history.specs.Entries.Answer.{LoginAnswer}
 use Rattle.ep_history.specs.Entries.Entry.{Login, Resume, Accept, Fetch, Leave, Create, SetText, Delete, SetPublic, ReadText, ReadHistory, ReadStatus}
 use Rattle.ep_history.specs.Entries.Outcome.{Refuses, Answers, Records}
-use Rattle.ep_history.specs.Machine.{MachineState, Size, Call, IsOpenStep, IsClosedStep, IsStep, IsStepAs, IsThen, IsFirst, Runs, closed, journal_fault, keeping, open_record, reopening, turn, turn_of}
-use Rattle.ep_history.specs.Machine.IsOpenStep.{Does, Lacks, Fails, FailsKept}
-use Rattle.ep_history.specs.Machine.IsClosedStep.{Opens, IsFull, LacksOpening, LacksOpened, FailsOpening, FailsOpened}
+use Rattle.ep_history.specs.Machine.{MachineState, Size, Call, IsOpenStep, IsFoundStep, IsClosedStep, IsStep, IsStepAs, IsThen, IsFirst, IsKeptState, Runs, closed, journal_fault, keeping, open_record, reopening, settled, turn, turn_of}
+use Rattle.ep_history.specs.Machine.IsOpenStep.{Does, Lacks, Fails}
+use Rattle.ep_history.specs.Machine.IsFoundStep.{Opens, IsFull, FailsOpened}
+use Rattle.ep_history.specs.Machine.IsClosedStep.{Finds, LacksOpening, FailsOpening}
 use Rattle.ep_history.specs.declared.seat.Seat.{Seat}
 use Rattle.ep_history.specs.declared.seat.Why.{Why}
 use Rattle.ep_history.specs.declared.pad_bad.PadBad.{PadBad}
@@ -121,7 +123,7 @@ next-limits pad (record_of.Delete time) = refl
 next-limits pad (record_of.Public on) = refl
 next-limits pad (record_of.Nop by time) = refl
 
-next-epoch : (pad : PadState) (r : Record) → pad.epoch ≤ (next_pad pad r).epoch
+pub next-epoch : (pad : PadState) (r : Record) → pad.epoch ≤ (next_pad pad r).epoch
 next-epoch pad (record_of.Open epoch) = omega arith
 next-epoch pad (record_of.Create birth time text) = omega arith
 next-epoch pad (record_of.Rev by time author fixed change) = omega arith
@@ -145,6 +147,14 @@ kept-next rs pad r k n = record {
     limits : (next_pad pad r).limits ≡ pad.limits
     limits = next-limits pad r
 
+-- nothing was added
+none-added : (rs : List Record) (r : Record) → rs ≡ rs ++ r ∷ [] → ⊥
+none-added rs r e = let n : length rs ≡ length (rs ++ r ∷ []) = ap (λ (xs : List Record). length xs) e in let m = length-append rs (r ∷ []) in omega (arith, n, m)
+
+same-added : (rs : List Record) (q r : Record) → rs ++ q ∷ [] ≡ rs ++ r ∷ [] → q ≡ r
+same-added [] q r e = cc
+same-added (x ∷ rs) q r e = same-added rs q r cc
+
 turn-kept : (size : Size) (st : MachineState) (can : Bool) (o : Outcome) → IsKept st.records st.pad → IsGoodOutcome st.pad can o
     → IsKept (turn_of size st can o).state.records (turn_of size st can o).state.pad
 turn-kept size st can (Refuses bad) k g = k
@@ -158,51 +168,106 @@ turn-kept size st true (Records r answer next) k g = go (journal_fault size st r
         let n = g refl in
         kept-same (st.records ++ r ∷ []) (next_pad st.pad r) next (kept-next st.records st.pad r k n.0) n.1 n.2
 
-then-kept : (st new : MachineState) → IsKept st.records st.pad → IsThen st new → IsKept new.records new.pad
-then-kept st new k t = subst (λ (x : MachineState). IsKept x.records x.pad) (sym t.0) k
-
-pub open-kept : (size : Size) (st : MachineState) (e : Entry) (reply : Reply) (new : MachineState) → IsKept st.records st.pad → IsOpenStep size st e reply new → IsKept new.records new.pad
-open-kept size st e reply new k step = go step
+-- a turn leaves what is pending
+turn-pending : (size : Size) (st : MachineState) (can : Bool) (o : Outcome) → (turn_of size st can o).state.pending ≡ st.pending
+turn-pending size st can (Refuses bad) = refl
+turn-pending size st can (Answers answer next) = refl
+turn-pending size st false (Records r answer next) = refl
+turn-pending size st true (Records r answer next) = go (journal_fault size st r)
   where
-    turned : IsKept (turn size st e).state.records (turn size st e).state.pad
-    turned = turn-kept size st (is_recordable e) (outcome st.pad e) k (outcome-good st.pad e k.sound k.opened)
+    go : (f : Option PadBad) → (keeping st f r answer next).state.pending ≡ st.pending
+    go (Some full) = refl
+    go None = refl
 
-    go : IsOpenStep size st e reply new → IsKept new.records new.pad
-    go (Does r t) = then-kept (turn size st e).state new turned t
-    go (Lacks r t) = then-kept st new k t
-    go (Fails count r h t) = then-kept (closed st) new k t
-    go (FailsKept count r h t) = then-kept (closed (turn size st e).state) new turned t
+-- what a turn keeps may come next
+turn-adds : (size : Size) (st : MachineState) (can : Bool) (o : Outcome) (r : Record) → IsGoodOutcome st.pad can o
+    → (turn_of size st can o).state.records ≡ st.records ++ r ∷ [] → IsNext st.pad r
+turn-adds size st can (Refuses bad) r g e = absurd (none-added st.records r e)
+turn-adds size st can (Answers answer next) r g e = absurd (none-added st.records r e)
+turn-adds size st false (Records q answer next) r g e = absurd (none-added st.records r e)
+turn-adds size st true (Records q answer next) r g e = go (journal_fault size st q) e
+  where
+    go : (f : Option PadBad) → (keeping st f q answer next).state.records ≡ st.records ++ r ∷ [] → IsNext st.pad r
+    go (Some full) e = absurd (none-added st.records r e)
+    go None e = subst (λ (x : Record). IsNext st.pad x) (same-added st.records q r e) (g refl).0
+
+then-state : (st new : MachineState) → IsKeptState st → IsThen st new → IsKeptState new
+then-state st new k t = subst IsKeptState (sym t.0) record { kept = k.kept; pending = k.pending; whole = k.whole }
+
+-- closed at a record that may come next
+closed-state : (st new : MachineState) (r : Record) → IsKept st.records st.pad → IsNext st.pad r → IsThen (closed r st) new → IsKeptState new
+closed-state st new r k n t = subst IsKeptState (sym t.0) record { kept = k; pending = (n, tt); whole = λ e. absurd (subst T (sym e) tt) }
+
+pub open-kept : (size : Size) (st : MachineState) (e : Entry) (reply : Reply) (new : MachineState) → IsKept st.records st.pad → st.pending ≡ []
+    → IsOpenStep size st e reply new → IsKeptState new
+open-kept size st e reply new k p step = go step
+  where
+    good : IsGoodOutcome st.pad (is_recordable e) (outcome st.pad e)
+    good = outcome-good st.pad e k.sound k.opened
+
+    none : (turn size st e).state.pending ≡ []
+    none = turn-pending size st (is_recordable e) (outcome st.pad e) ∙ p
+
+    go : IsOpenStep size st e reply new → IsKeptState new
+    go (Does r t) = subst IsKeptState (sym t.0) record {
+      kept = turn-kept size st (is_recordable e) (outcome st.pad e) k good;
+      pending = subst (AreNext (turn size st e).state.pad) (sym none) tt;
+      whole = λ _. none;
+    }
+    go (Lacks r t) = subst IsKeptState (sym t.0) record { kept = k; pending = subst (AreNext st.pad) (sym p) tt; whole = λ _. p }
+    go (Fails count r adds q h t) = closed-state st new r k (turn-adds size st (is_recordable e) (outcome st.pad e) r good adds) t
 
 pub reopening-kept : (st : MachineState) → IsKept st.records st.pad → IsKept (reopening st).records (reopening st).pad
 reopening-kept st k = kept-next st.records st.pad (open_record st) k refl
 
-closed-kept : (size : Size) (st : MachineState) (e : Entry) (reply : Reply) (new : MachineState) → IsKept st.records st.pad → IsClosedStep size st e reply new → IsKept new.records new.pad
-closed-kept size st e reply new k (Opens f step) = open-kept size (reopening st) e reply new (reopening-kept st k) step
-closed-kept size st e reply new k (IsFull full f r t) = then-kept st new k t
-closed-kept size st e reply new k (LacksOpening r t) = then-kept st new k t
-closed-kept size st e reply new k (LacksOpened f r t) = then-kept (closed (reopening st)) new (reopening-kept st k) t
-closed-kept size st e reply new k (FailsOpening count r h t) = then-kept st new k t
-closed-kept size st e reply new k (FailsOpened count f r h t) = then-kept (closed (reopening st)) new (reopening-kept st k) t
+found-kept : (size : Size) (st : MachineState) (e : Entry) (reply : Reply) (new : MachineState) → IsKeptState st → st.pending ≡ []
+    → IsFoundStep size st e reply new → IsKeptState new
+found-kept size st e reply new k p (Opens f step) = open-kept size (reopening st) e reply new (reopening-kept st k.kept) p step
+found-kept size st e reply new k p (IsFull full f r t) = then-state st new k t
+found-kept size st e reply new k p (FailsOpened count f r h t) = closed-state st new (open_record st) k.kept refl t
 
-pub step-kept : (size : Size) (st : MachineState) (e : Entry) (reply : Reply) (new : MachineState) → IsKept st.records st.pad → IsStep size st e reply new → IsKept new.records new.pad
-step-kept size st e reply new k = go st.is_open
+-- several records more
+kept-all : (rs : List Record) (pad : PadState) (qs : List Record) → IsKept rs pad → AreNext pad qs → IsKept (rs ++ qs) (told_from pad qs)
+kept-all rs pad [] k n = subst (λ (xs : List Record). IsKept xs pad) (sym (append-nil rs)) k
+kept-all rs pad (q ∷ qs) k n =
+    subst (λ (xs : List Record). IsKept xs (told_from (next_pad pad q) qs)) (append_assoc rs (q ∷ []) qs) (kept-all (rs ++ q ∷ []) (next_pad pad q) qs (kept-next rs pad q k n.0) n.1)
+
+pub settled-kept : (st : MachineState) (kept : Bool) → IsKeptState st → IsKeptState (settled kept st)
+settled-kept st true k = record { kept = kept-all st.records st.pad st.pending k.kept k.pending; pending = tt; whole = λ _. refl }
+settled-kept st false k = record { kept = k.kept; pending = tt; whole = λ _. refl }
+
+settled-none : (kept : Bool) (st : MachineState) → (settled kept st).pending ≡ []
+settled-none true st = refl
+settled-none false st = refl
+
+closed-kept : (size : Size) (st : MachineState) (e : Entry) (reply : Reply) (new : MachineState) → IsKeptState st → IsClosedStep size st e reply new → IsKeptState new
+closed-kept size st e reply new k (Finds kept step) = found-kept size (settled kept st) e reply new (settled-kept st kept k) (settled-none kept st) step
+closed-kept size st e reply new k (LacksOpening r t) = then-state st new k t
+closed-kept size st e reply new k (FailsOpening count r h t) = then-state st new k t
+
+pub step-kept : (size : Size) (st : MachineState) (e : Entry) (reply : Reply) (new : MachineState) → IsKeptState st → IsStep size st e reply new → IsKeptState new
+step-kept size st e reply new k = go st.is_open refl
   where
-    go : (b : Bool) → IsStepAs b size st e reply new → IsKept new.records new.pad
-    go true step = open-kept size st e reply new k step
-    go false step = closed-kept size st e reply new k step
+    go : (b : Bool) → st.is_open ≡ b → IsStepAs b size st e reply new → IsKeptState new
+    go true o step = open-kept size st e reply new k.kept (k.whole o) step
+    go false o step = closed-kept size st e reply new k step
 
-pub runs-kept : (size : Size) (st : MachineState) (calls : List Call) (last : MachineState) → IsKept st.records st.pad → Runs size st calls last → IsKept last.records last.pad
-runs-kept size st [] last k r = subst (λ (x : MachineState). IsKept x.records x.pad) (sym r) k
+pub runs-kept : (size : Size) (st : MachineState) (calls : List Call) (last : MachineState) → IsKeptState st → Runs size st calls last → IsKeptState last
+runs-kept size st [] last k r = subst IsKeptState (sym r) k
 runs-kept size st (c ∷ cs) last k r = runs-kept size r.0 cs last (step-kept size st c.entry c.reply r.0 k r.1) r.2
 
 told-silent : (pad : PadState) (rs : List Record) → without_sessions pad ≡ pad → without_sessions (told_from pad rs) ≡ told_from pad rs
 told-silent pad [] e = e
 told-silent pad (r ∷ rs) e = told-silent (next_pad pad r) rs (next-apart pad r ∙ ap (λ p. next_pad p r) e)
 
-pub first-kept : (st : MachineState) → IsFirst st → IsKept st.records st.pad
+pub first-kept : (st : MachineState) → IsFirst st → IsKeptState st
 first-kept st f = record {
-  legal = f.legal;
-  told = ap without_sessions f.told ∙ told-silent (unopened st.pad.limits) st.records refl;
-  sound = subst IsSoundPad (sym f.told) (legal-sound st.pad.limits st.records f.legal);
-  opened = f.opened;
+  kept = record {
+    legal = f.legal;
+    told = ap without_sessions f.told ∙ told-silent (unopened st.pad.limits) st.records refl;
+    sound = subst IsSoundPad (sym f.told) (legal-sound st.pad.limits st.records f.legal);
+    opened = f.opened;
+  };
+  pending = subst (AreNext st.pad) (sym f.pending) tt;
+  whole = λ _. f.pending;
 }

@@ -2,7 +2,7 @@
 use Rattle.std.specs.Prelude.{◌≡◌, ℕ, suc, ◌+◌, ◌-◌, ◌^◌, ◌<◌, ◌≤◌, Bool, true, false, nat_lt, List, [], ◌∷◌, ◌++◌, sum_by, Option, Some, None, Ok, Err, ◌⊎◌}
 use Rattle.ep_history.specs.Pad.{PadState, reopened}
 use Rattle.ep_history.specs.Refusals.{first_fault, fault_if}
-use Rattle.ep_history.specs.Records.{AreLegal, told}
+use Rattle.ep_history.specs.Records.{AreLegal, AreNext, IsKept, told, told_from}
 use Rattle.ep_history.specs.Readings.{Committed}
 use Rattle.ep_history.specs.Entries.{Entry, Answer, Reply, Outcome, outcome, is_recordable}
 use Rattle.ep_history.specs.Entries.Entry.{ReadHistory}
@@ -13,12 +13,15 @@ use Rattle.ep_history.specs.declared.pad_bad.PadBad.TheVariants.{JournalFull, St
 use Rattle.ep_history.specs.declared.record.Record.{Record}
 use Rattle.ep_history.specs.declared.record.Record.TheVariants as record_of
 
--- the records that are kept, the pad with the sessions of this opening, whether it is open, and how many faults the
--- store has counted. While it is closed its sessions are of no account.
+-- the records that are kept, the pad with the sessions of this opening, whether it is open, the record that it was to
+-- keep when its store failed, and how many faults the store has counted. Whether the pending record is kept too is
+-- settled by the next opening that finds the file whole; there is none while the machine is open. While it is closed its
+-- sessions are of no account.
 pub record MachineState : Type 0 where
   pub records : List Record
   pub pad : PadState
   pub is_open : Bool
+  pub pending : List Record
   pub faults : ℕ
 
 -- how many bytes each record has
@@ -82,17 +85,22 @@ IsThen st new = (new ≡ record st { faults = new.faults }) × (st.faults ≤ ne
 abbrev pub HasRisen : MachineState → MachineState → ℕ → Type 0
 HasRisen st new count = (new.faults ≡ count) × ((st.faults < count) ⊎ (count ≡ 2 ^ 64 - 1))
 
--- a store that failed closes the machine
-abbrev pub closed : MachineState → MachineState
-closed st = record st { is_open = false }
+-- a store that failed at a record closes the machine
+abbrev pub closed : Record → MachineState → MachineState
+closed r st = record st { is_open = false; pending = r ∷ [] }
 
 -- at an entry an open machine does what it is to do; or changes nothing, for want of memory; or is closed, as its store
--- failed, with the record of the entry kept or not
+-- failed at the record of the entry
 pub data IsOpenStep (size : Size) (st : MachineState) (e : Entry) (reply : Reply) (new : MachineState) : Type 0 where
   Does : reply ≡ (turn size st e).reply → IsThen (turn size st e).state new → IsOpenStep size st e reply new
   Lacks : reply ≡ Err NoMemory → IsThen st new → IsOpenStep size st e reply new
-  Fails : (count : ℕ) → reply ≡ Err (Store count) → HasRisen st new count → IsThen (closed st) new → IsOpenStep size st e reply new
-  FailsKept : (count : ℕ) → reply ≡ Err (Store count) → HasRisen st new count → IsThen (closed (turn size st e).state) new → IsOpenStep size st e reply new
+  Fails : (count : ℕ) (r : Record) → (turn size st e).state.records ≡ st.records ++ r ∷ [] → reply ≡ Err (Store count) → HasRisen st new count
+      → IsThen (closed r st) new → IsOpenStep size st e reply new
+
+-- an opening has found whether the pending record is kept
+abbrev pub settled : Bool → MachineState → MachineState
+settled true st = record st { records = st.records ++ st.pending; pad = told_from st.pad st.pending; pending = [] }
+settled false st = record st { pending = [] }
 
 -- the record of the next opening
 abbrev pub open_record : MachineState → Record
@@ -102,17 +110,21 @@ open_record st = record_of.Open (suc st.pad.epoch)
 abbrev pub reopening : MachineState → MachineState
 reopening st = record st { records = st.records ++ open_record st ∷ []; pad = reopened st.pad; is_open = true }
 
--- at an entry a closed machine opens itself, and then is an open one; or stays closed: its opening's record is too
--- long, memory is wanting, or its store failed; of the last two that record may be kept. That the file is no journal's,
--- or has a record that none can come behind, is refused where others wrote it: of a machine's own file no history tells so.
-pub data IsClosedStep (size : Size) (st : MachineState) (e : Entry) (reply : Reply) (new : MachineState) : Type 0 where
-  Opens : journal_fault size st (open_record st) ≡ None → IsOpenStep size (reopening st) e reply new → IsClosedStep size st e reply new
-  IsFull : (full : PadBad) → journal_fault size st (open_record st) ≡ Some full → reply ≡ Err full → IsThen st new → IsClosedStep size st e reply new
-  LacksOpening : reply ≡ Err NoMemory → IsThen st new → IsClosedStep size st e reply new
-  LacksOpened : journal_fault size st (open_record st) ≡ None → reply ≡ Err NoMemory → IsThen (closed (reopening st)) new → IsClosedStep size st e reply new
-  FailsOpening : (count : ℕ) → reply ≡ Err (Store count) → HasRisen st new count → IsThen st new → IsClosedStep size st e reply new
+-- once an opening has found the records it keeps its own, and then the machine is an open one; or it stays closed, as
+-- that record is too long, or as its store failed at it
+pub data IsFoundStep (size : Size) (st : MachineState) (e : Entry) (reply : Reply) (new : MachineState) : Type 0 where
+  Opens : journal_fault size st (open_record st) ≡ None → IsOpenStep size (reopening st) e reply new → IsFoundStep size st e reply new
+  IsFull : (full : PadBad) → journal_fault size st (open_record st) ≡ Some full → reply ≡ Err full → IsThen st new → IsFoundStep size st e reply new
   FailsOpened : (count : ℕ) → journal_fault size st (open_record st) ≡ None → reply ≡ Err (Store count) → HasRisen st new count
-      → IsThen (closed (reopening st)) new → IsClosedStep size st e reply new
+      → IsThen (closed (open_record st) st) new → IsFoundStep size st e reply new
+
+-- at an entry a closed machine opens itself: it finds the records, the pending one among them or not; or it stays as it
+-- is, as memory is wanting or its store failed. That the file is no journal's, or has a record that none can come
+-- behind, is refused where others wrote it: of a machine's own file no history tells so.
+pub data IsClosedStep (size : Size) (st : MachineState) (e : Entry) (reply : Reply) (new : MachineState) : Type 0 where
+  Finds : (kept : Bool) → IsFoundStep size (settled kept st) e reply new → IsClosedStep size st e reply new
+  LacksOpening : reply ≡ Err NoMemory → IsThen st new → IsClosedStep size st e reply new
+  FailsOpening : (count : ℕ) → reply ≡ Err (Store count) → HasRisen st new count → IsThen st new → IsClosedStep size st e reply new
 
 -- an entry, its reply, and the state then
 abbrev pub IsStepAs : Bool → Size → MachineState → Entry → Reply → MachineState → Type 0
@@ -130,10 +142,17 @@ IsAllowed e = Unit {0}
 
 -- ---- what the laws say of a step
 
--- a refusal but by the store leaves an open machine as it was, and a closed one at most opened
+-- a refusal but by the store leaves an open machine as it was, and a closed one at most settled or opened
 abbrev pub StaysAs : Bool → MachineState → MachineState → Type 0
 StaysAs true st new = IsThen st new
-StaysAs false st new = IsThen st new ⊎ (IsThen (reopening st) new ⊎ IsThen (closed (reopening st)) new)
+StaysAs false st new = IsThen st new ⊎ ((kept : Bool) × (IsThen (settled kept st) new ⊎ IsThen (reopening (settled kept st)) new))
+
+-- the records are a legal list that tells the pad apart from its sessions; a pending one may come next, and there is
+-- none while the machine is open
+pub record IsKeptState (st : MachineState) : Type 0 where
+  pub kept : IsKept st.records st.pad
+  pub pending : AreNext st.pad st.pending
+  pub whole : st.is_open ≡ true → st.pending ≡ []
 
 -- this is committed, with this record and the pad then, unless the journal's limit, the store or memory hinders it
 abbrev pub CommitsUnless : MachineState → Committed → Record → PadState → Reply → MachineState → Type 0
@@ -161,6 +180,7 @@ pub record IsFirst (st : MachineState) : Type 0 where
   pub told : st.pad ≡ told st.pad.limits st.records
   pub opened : 1 ≤ st.pad.epoch
   pub is_open : st.is_open ≡ true
+  pub pending : st.pending ≡ []
 
 -- a legal history leads from some first state to some last one
 abbrev pub IsLegal : Size → List Call → Type 0

@@ -7,24 +7,23 @@ ghost use Rattle.ep_units.specs.declared.grant.Grant.{Grant};
 ghost use Rattle.ep_history.specs.History.{doc_at};
 ghost use Rattle.ep_history.specs.Pad.{birth_at};
 ghost use Rattle.ep_history.specs.Readings.{CatchUp, Fetched, Piece, Welcome};
-ghost use Rattle.ep_history.specs.Records.{IsKept};
 ghost use Rattle.ep_history.specs.Entries.Answer.{FetchAnswer, HistoryAnswer, LoginAnswer, ResumeAnswer};
 ghost use Rattle.ep_history.specs.Entries.Entry.{Fetch, Login, ReadHistory, Resume};
-ghost use Rattle.ep_history.specs.Machine.{Call, IsStep, MachineState, Runs, Size};
+ghost use Rattle.ep_history.specs.Machine.{Call, IsKeptState, IsStep, MachineState, Runs, Size};
 ghost use Rattle.ep_history.specs.Fetches.{AreBehind, AreNops, GoOn, TellOn, all_given, all_told};
 
 /// What a session was told is of its birth: the document at its login, and the revisions that its fetches were answered
 /// behind its login's or its resumption's, each fetch going on where the last one ended. Whatever else was asked between.
 pub fn fetches_follow_the_birth()
     ensures login { (size : Size) (first last : MachineState) (before after : List Call) (g : Grant) (now : ℕ) (w : Welcome)
-        → IsKept first.records first.pad
+        → IsKeptState first
         → Runs size first (before ++ record { entry = Login g now; reply = Ok (LoginAnswer w) } ∷ after) last
         → GoOn w.session w.rev after
         → AreBehind (birth_at last.pad w.birth) w.rev (all_given w.session after)
         × (w.doc ≡ doc_at (birth_at last.pad w.birth) w.rev) }
     ensures resume { (size : Size) (first last : MachineState) (before after : List Call)
         (g : Grant) (rev : ℕ) (birth : Option ℕ) (author : Option Text) (now : ℕ) (w : CatchUp)
-        → IsKept first.records first.pad
+        → IsKeptState first
         → Runs size first (before ++ record { entry = Resume g rev birth author now; reply = Ok (ResumeAnswer w) } ∷ after) last
         → GoOn w.session rev after
         → AreBehind (birth_at last.pad w.birth) rev (all_given w.session after) }
@@ -34,13 +33,13 @@ pub fn fetches_follow_the_birth()
 /// each fetch knowing of those that were told before.
 pub fn fetches_tell_what_became_nothing()
     ensures login { (size : Size) (first last : MachineState) (before after : List Call) (g : Grant) (now : ℕ) (w : Welcome)
-        → IsKept first.records first.pad
+        → IsKeptState first
         → Runs size first (before ++ record { entry = Login g now; reply = Ok (LoginAnswer w) } ∷ after) last
         → TellOn w.session 0 after
         → AreNops w.session (birth_at last.pad w.birth) (all_told w.session after) }
     ensures resume { (size : Size) (first last : MachineState) (before after : List Call)
         (g : Grant) (rev : ℕ) (birth : Option ℕ) (author : Option Text) (now : ℕ) (w : CatchUp)
-        → IsKept first.records first.pad
+        → IsKeptState first
         → Runs size first (before ++ record { entry = Resume g rev birth author now; reply = Ok (ResumeAnswer w) } ∷ after) last
         → TellOn w.session 0 after
         → AreNops w.session (birth_at last.pad w.birth) (all_told w.session after) }

@@ -1,6 +1,6 @@
 //! The laws of a pad machine's legal histories.
 
-ghost use Rattle.std.specs.Prelude.{◌≡◌, List, ℕ, Err, true};
+ghost use Rattle.std.specs.Prelude.{◌≡◌, Bool, List, ℕ, Err, true};
 ghost use Rattle.ep_units.specs.declared.session.Session.{Session};
 ghost use Rattle.ep_cs.specs.Change.{Change};
 ghost use Rattle.ep_cs.specs.EditFits.{is_edit};
@@ -12,24 +12,26 @@ ghost use Rattle.ep_history.specs.Pad.{PadState, newest};
 ghost use Rattle.ep_history.specs.Accept.{at_head, committed};
 ghost use Rattle.ep_history.specs.Admissible.{IsAdmissible};
 ghost use Rattle.ep_history.specs.Readings.{commit};
-ghost use Rattle.ep_history.specs.Records.{IsKept, accept_record};
+ghost use Rattle.ep_history.specs.Records.{accept_record};
 ghost use Rattle.ep_history.specs.Entries.{Entry, Reply};
 ghost use Rattle.ep_history.specs.Entries.Entry.{Accept};
-ghost use Rattle.ep_history.specs.Machine.{Call, CommitsUnless, IsFirst, IsOpenStep, IsStep, MachineState, Runs, Size, StaysAs};
+ghost use Rattle.ep_history.specs.Machine.{Call, CommitsUnless, IsFirst, IsKeptState, IsOpenStep, IsStep, MachineState, Runs, Size, StaysAs, settled};
 ghost use Rattle.ep_history.specs.declared.pad_bad.PadBad.{PadBad};
 ghost use Rattle.ep_history.specs.declared.pad_bad.PadBad.TheVariants.{Store};
 
-/// In each state of a legal history the records are a legal list that tells the pad apart from its sessions.
+/// In each state of a legal history the records are a legal list that tells the pad apart from its sessions; and so they
+/// are with the record at which the store failed, where it turns out to be kept.
 pub fn records_tell_each_state()
-    ensures first { (st : MachineState) → IsFirst st → IsKept st.records st.pad }
+    ensures first { (st : MachineState) → IsFirst st → IsKeptState st }
     ensures step { (size : Size) (st : MachineState) (e : Entry) (reply : Reply) (new : MachineState)
-        → IsKept st.records st.pad → IsStep size st e reply new → IsKept new.records new.pad }
+        → IsKeptState st → IsStep size st e reply new → IsKeptState new }
     ensures run { (size : Size) (st : MachineState) (calls : List Call) (last : MachineState)
-        → IsKept st.records st.pad → Runs size st calls last → IsKept last.records last.pad }
+        → IsKeptState st → Runs size st calls last → IsKeptState last }
+    ensures settled { (st : MachineState) (kept : Bool) → IsKeptState st → IsKeptState (settled kept st) }
 {}
 
-/// A refusal changes nothing, but that a closed machine may have opened itself, or have come so far; and but for the
-/// store's.
+/// A refusal changes nothing, but that a closed machine may have found its records, or have opened itself; and but for
+/// the store's.
 pub fn refusals_change_nothing()
     ensures { (size : Size) (st : MachineState) (e : Entry) (bad : PadBad) (new : MachineState)
         → IsStep size st e (Err bad) new → ((count : ℕ) → bad ≡ Store count → ⊥) → StaysAs st.is_open st new }

@@ -7,7 +7,7 @@ use Rattle.std.specs.Int.{w32, to_be_bytes, from_be_bytes}
 use Rattle.std.proofs.lemmas.Nat.{from_be_bytes-to_be_bytes_4}
 use Rattle.ep_outside.specs.Disk.{written}
 use Rattle.ep_outside.specs.Images.{Torn}
-use Rattle.ep_journal.specs.File.{header, size_at, is_open, record_at, records_from, records_of, end_of, gates_of, closed_gate, is_foreign, stands_for, IsAtRest, frame_of, IsByGate}
+use Rattle.ep_journal.specs.File.{header, size_at, is_open, record_at, records_from, records_of, end_of, gates_of, closed_gate, is_foreign, stands_for, IsAtRest, frame_of, IsByGate, IsUnfinished}
 use Rattle.ep_journal.specs.Repair.{staged_file, grown_file}
 use Rattle.ep_journal.proofs.File.{skipped, is_open_by, shut_gate, none_shut, one_open, grown}
 
@@ -98,6 +98,9 @@ module _ (file rec : List ℕ) (rest : IsAtRest file) (small : length rec ≤ 67
       sym (take-append-drop (p + 1) c) ∙ ap (λ (l : List ℕ). l ++ tail) (torn.before ∙ take_all (p + 1) file (omega (arith, rest.ends)) ∙ whole) ∙ append_assoc front (0 ∷ []) tail in
       ap stands_for same ∙ regrown_shut file (0 ∷ tail) rest.begins long (omega arith) (shut_gate (0 ∷ tail) (λ e. omega arith))
 
+  pub unfinished_behind : (n : ℕ) (c : List ℕ) → Torn (p + 1) n file c → IsUnfinished file rec c
+  unfinished_behind n c torn = inl (ap (λ (k : ℕ). take k c) (sym rest.ends) ∙ torn.before ∙ take_all (p + 1) file (omega (arith, rest.ends)))
+
   pub written_behind : written file (p + 1) (frame_of rec) ≡ staged
   written_behind =
       ap (λ (l : List ℕ). l ++ frame_of rec ++ drop (p + 1 + length (frame_of rec)) file) (take_all (p + 1) file (omega (arith, rest.ends)))
@@ -116,13 +119,19 @@ module _ (file rec : List ℕ) (rest : IsAtRest file) (small : length rec ≤ 67
   length-staged = omega (arith, length-append front (0 ∷ frame_of rec), length-front)
 
   -- the record stands there whole, behind any gate
+  whole_behind : (c : List ℕ) → Torn p 1 staged c → c ≡ front ++ get_or c p 0 ∷ frame_of rec
+  whole_behind c torn =
+      sym (take-append-drop p c) ∙ ap (λ (l : List ℕ). l ++ drop p c) (torn.before ∙ front_staged)
+      ∙ ap (λ (l : List ℕ). front ++ l) (drop_more c p 0 (omega (arith, torn.no_shorter, length-staged)) ∙ ap (λ (l : List ℕ). get_or c p 0 ∷ l) (torn.after ∙ back_staged))
+
+  pub unfinished_gate : (c : List ℕ) → Torn p 1 staged c → IsUnfinished file rec c
+  unfinished_gate c torn = inr (get_or c p 0, whole_behind c torn)
+
   pub torn_gate : (c : List ℕ) → Torn p 1 staged c → IsByGate p (records_of file) rec c
   torn_gate c torn =
       let gate = get_or c p 0 in
       let with_it = records_of file ++ rec ∷ [] in
-      let same : c ≡ front ++ gate ∷ frame_of rec =
-      sym (take-append-drop p c) ∙ ap (λ (l : List ℕ). l ++ drop p c) (torn.before ∙ front_staged)
-      ∙ ap (λ (l : List ℕ). front ++ l) (drop_more c p 0 (omega (arith, torn.no_shorter, length-staged)) ∙ ap (λ (l : List ℕ). gate ∷ l) (torn.after ∙ back_staged)) in
+      let same = whole_behind c torn in
       elim (cases_Bool (gate == 1)) [
         | inl open_gate ↦
             let one : gate ≡ 1 = eqb-true gate 1 open_gate in

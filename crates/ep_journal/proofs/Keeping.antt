@@ -8,7 +8,7 @@ use Rattle.ep_outside.specs.Crash.{Restarts, IsAsked}
 use Rattle.ep_outside.specs.declared.image.Image.{Image}
 use Rattle.ep_outside.specs.Images.{Torn}
 use Rattle.ep_outside.proofs.Images.{only_told}
-use Rattle.ep_journal.specs.File.{records_of, closed_gate, end_of, gates_of, stands_for, frame_of, IsByGate, IsBeforeOrAfter}
+use Rattle.ep_journal.specs.File.{records_of, closed_gate, end_of, gates_of, stands_for, frame_of, IsByGate, IsBeforeOrAfter, IsUnfinished}
 use Rattle.ep_journal.specs.Repair.{staged_file, grown_file, IsStored}
 use Rattle.ep_journal.specs.Held.{IsHeld, HoldsFile, Adds, IsRecord, IsHalfway, HasCount}
 use Rattle.ep_journal.specs.Walking.{AreSpaced}
@@ -16,7 +16,7 @@ use Rattle.ep_journal.specs.Refusals.{OpenRefused}
 use Rattle.ep_journal.specs.declared.journal_bad.JournalBad.{JournalBad}
 use Rattle.ep_journal.specs.declared.journal_bad.JournalBad.TheVariants.{Disk, Foreign, Full, NoMemory}
 use Rattle.ep_journal.proofs.File.{record_at_gate, next_gate, length-gates}
-use Rattle.ep_journal.proofs.Append.{torn_behind, torn_gate, shut_behind, staged_records, written_behind, written_gate, grown_records, grown_end, grown_rest, length_frame, gates_push, stands}
+use Rattle.ep_journal.proofs.Append.{torn_behind, torn_gate, unfinished_behind, unfinished_gate, shut_behind, staged_records, written_behind, written_gate, grown_records, grown_end, grown_rest, length_frame, gates_push, stands}
 
 module _ (file rec : List ℕ) (gate : ℕ) (bytes : List ℕ) (st : IsStored file rec gate bytes) where
   abbrev staged : List ℕ
@@ -39,6 +39,12 @@ module _ (file rec : List ℕ) (gate : ℕ) (bytes : List ℕ) (st : IsStored fi
 
   pub second : (image : List ℕ) → Torn gate 1 staged image → By image
   second image t = subst (λ (g : ℕ). IsByGate g (records_of file) rec image) (sym st.gate_is) (torn_gate file rec st.rest st.small image (subst (λ (g : ℕ). Torn g 1 staged image) st.gate_is t))
+
+  pub first_unfinished : (image : List ℕ) → Torn (gate + 1) (length bytes) file image → IsUnfinished file rec image
+  first_unfinished image t = unfinished_behind file rec st.rest st.small (length bytes) image (subst (λ (g : ℕ). Torn (g + 1) (length bytes) file image) st.gate_is t)
+
+  pub second_unfinished : (image : List ℕ) → Torn gate 1 staged image → IsUnfinished file rec image
+  second_unfinished image t = unfinished_gate file rec st.rest st.small image (subst (λ (g : ℕ). Torn g 1 staged image) st.gate_is t)
 
   pub staged_is : written file (gate + 1) bytes ≡ staged
   staged_is = (λ i. written file (st.gate_is i + 1) (st.bytes_are i)) ∙ written_behind file rec st.rest st.small
@@ -89,6 +95,19 @@ gate_image c told gates gate rec image is held left =
     let h = subst (λ (o : Option Contents). IsHeld o gates gate) is held in
     let same = only_told c.seen image told (is ∙ ap (λ (k : Contents). Some k) h.settled) left in
     old_image c told gates gate image is held left ∙ ap (λ (b : ℕ). Some (cond (b == 1) (records_of c.seen ++ rec ∷ []) (records_of c.seen))) (sym (ap (λ (l : List ℕ). get_or l (closed_gate c.seen) 0) same ∙ h.rest.closed))
+
+pub old_unfinished : (c : Contents) (told : Option Contents) (gates : List ℕ) (gate : ℕ) (rec image : List ℕ) → told ≡ Some c → IsHeld told gates gate → IsImage told image → IsUnfinished c.seen rec image
+old_unfinished c told gates gate rec image is held left =
+    let h = subst (λ (o : Option Contents). IsHeld o gates gate) is held in
+    let same = only_told c.seen image told (is ∙ ap (λ (k : Contents). Some k) h.settled) left in
+    inl (ap (λ (l : List ℕ). take (length c.seen) l) same ∙ take_all (length c.seen) c.seen (omega arith))
+
+pub old_synced : (c d : Contents) (told : Option Contents) (gates : List ℕ) (gate : ℕ) (rec : List ℕ) → told ≡ Some c → told ≡ Some d → IsHeld told gates gate → (stands_for d.synced ≡ Some (records_of c.seen)) × IsUnfinished c.seen rec d.synced
+old_synced c d told gates gate rec is now held =
+    let h = subst (λ (o : Option Contents). IsHeld o gates gate) is held in
+    let same : d ≡ c = cc in
+    let synced : d.synced ≡ c.seen = ap (λ (k : Contents). k.synced) (same ∙ h.settled) in
+    (ap stands_for synced ∙ stands c.seen h.rest.begins, inl (ap (λ (l : List ℕ). take (length c.seen) l) synced ∙ take_all (length c.seen) c.seen (omega arith)))
 
 abbrev pub Stores : Option Contents → Option Contents → ℕ → List ℕ → Type 0
 Stores old new gate bytes = (file rec : List ℕ) → IsStored file rec gate bytes → old ≡ Some (settled file) → new ≡ Some (settled (grown_file file rec))

@@ -7,3 +7,6 @@ pub mod Gates
 pub mod Repairing
 pub mod Restarting
 pub mod Sparing
+pub mod Syncing
+pub mod Staying
+pub mod Unfinished

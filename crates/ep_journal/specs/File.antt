@@ -84,11 +84,13 @@ StandsNear file image = (stands_for image ≡ stands_for file) ⊎ (stands_for i
 abbrev pub IsLongOrNew : List ℕ → Type 0
 IsLongOrNew file = (9 < length file) ⊎ (file ≡ header ++ 0 ∷ [])
 
--- What a crash may leave of a file while an opening mends it. It stands near the file; and unless the file is written anew, it gets no longer, and each byte that is right already stays.
+-- What a crash may leave of a file while an opening mends it. It stands near the file; and unless the file is written anew, it gets no longer, each byte that is right already stays, what is before the first closed gate stays, and until 00 stands at that gate also what is behind it.
 pub record IsMending (file image : List ℕ) : Type 0 where
   pub near : StandsNear file image
   pub no_longer : IsLongOrNew file → length image ≤ length file
   pub right : IsLongOrNew file → (i : ℕ) → i < length (mended file) → get_or file i 0 ≡ get_or (mended file) i 0 → (i < length image) × (get_or image i 0 ≡ get_or file i 0)
+  pub before : IsLongOrNew file → (take (closed_gate file) image ≡ take (closed_gate file) file) × (closed_gate file < length image)
+  pub behind : IsLongOrNew file → (get_or image (closed_gate file) 0 ≡ 0) ⊎ (drop (closed_gate file + 1) image ≡ drop (closed_gate file + 1) file)
 
 -- the image stands for these records, with one more or without it
 abbrev pub IsBeforeOrAfter : List (List ℕ) → List ℕ → List ℕ → Type 0
@@ -97,3 +99,7 @@ IsBeforeOrAfter records rec image = (stands_for image ≡ Some records) ⊎ (sta
 -- it has the one more exactly where its byte at the gate is 01
 abbrev pub IsByGate : ℕ → List (List ℕ) → List ℕ → List ℕ → Type 0
 IsByGate gate records rec image = stands_for image ≡ Some (if get_or image gate 0 == 1 then records ++ rec ∷ [] else records)
+
+-- What an append that isn't finished leaves of a file at rest: the file with anything behind it, or the record's whole frame behind its last gate, and any byte at that gate.
+abbrev pub IsUnfinished : List ℕ → List ℕ → List ℕ → Type 0
+IsUnfinished file rec image = (take (length file) image ≡ file) ⊎ ((byte : ℕ) × (image ≡ take (closed_gate file) file ++ byte ∷ frame_of rec))

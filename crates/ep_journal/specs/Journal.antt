@@ -1,7 +1,7 @@
 -- A journal over a disk.
-use Rattle.std.specs.Prelude.{◌≡◌, ◌⊎◌, ℕ, ◌+◌, ◌<◌, length, List, Option, true, false, vec_len, vec_capacity, Some, Result, OnOk, IsErrOf}
+use Rattle.std.specs.Prelude.{◌≡◌, ◌⊎◌, ℕ, ◌+◌, ◌<◌, length, List, Option, true, false, vec_len, vec_capacity, Some, Result, OnOk, OnErr, IsErrOf}
 use Rattle.ep_outside.specs.Disk.{Contents, Room, HasRoom, IsImage, settled}
-use Rattle.ep_journal.specs.File.{mended, stands_for, is_foreign}
+use Rattle.ep_journal.specs.File.{mended, stands_for, is_foreign, IsMending}
 use Rattle.ep_journal.specs.Held.{IsHeld, Stands}
 use Rattle.ep_journal.specs.Walking.{AreSpaced}
 use Rattle.ep_journal.specs.declared.journal_bad.JournalBad.{JournalBad}
@@ -52,8 +52,9 @@ pub record IsSameOver {D : Type 0} (old new : Journal D) : Type 0 where
 abbrev pub IsImageOr : Option Contents → List ℕ → List ℕ → Type 0
 IsImageOr told image c = IsImage told c ⊎ (c ≡ image)
 
--- an opening of the disk that holds this image: it stands for what the image stands for, or the image is foreign, or another refusal
+-- an opening of the disk that holds this image: it stands for what the image stands for, or the image is foreign, or another refusal; what a refusal leaves synced is what an opening may leave of the image
 pub record Reopens (image : List ℕ) (told : Option Contents) (result : Result (Unit {0}) JournalBad) : Type 0 where
   pub file : OnOk result (told ≡ Some (settled (mended image)))
   pub records : OnOk result (Stands told (stands_for image))
   pub foreign : IsErrOf result Foreign → is_foreign image ≡ true
+  pub synced : (d : Contents) → told ≡ Some d → OnErr result (IsMending image d.synced)

@@ -1,10 +1,10 @@
 //! Journals.
 
-ghost use Rattle.std.specs.Prelude.{get_or, ◌⊎◌, ◌≡◌, ◌+◌, ◌*◌, ◌≤◌, ◌<◌, length, List, ℕ, Some, None, true, ◌∷◌, ◌++◌, [], OnOk, OnErr, IfOk, IfErr, IsOk, IsErr, IsErrOf, MatchResult};
+ghost use Rattle.std.specs.Prelude.{get_or, false, ◌⊎◌, ◌≡◌, ◌+◌, ◌*◌, ◌≤◌, ◌<◌, length, List, ℕ, Some, None, true, ◌∷◌, ◌++◌, [], OnOk, OnErr, IfOk, IfErr, IsOk, IsErr, IsErrOf, MatchResult};
 ghost use Rattle.ep_outside.specs.Disk.{Contents, IsImage, IsSure, KeepsMarks, settled};
 ghost use Rattle.ep_outside.specs.Moments.{LeavesOnly, LeavesFirst, MayLeaveFirst};
 ghost use Rattle.ep_outside.specs.Crash.{IsAsked, image_at};
-ghost use Rattle.ep_journal.specs.File.{records_of, stands_for, closed_gate, mended, is_foreign, IsMending, IsBeforeOrAfter, IsByGate};
+ghost use Rattle.ep_journal.specs.File.{records_of, stands_for, closed_gate, mended, is_foreign, IsMending, IsBeforeOrAfter, IsByGate, IsUnfinished};
 ghost use Rattle.ep_journal.specs.Held.{Adds, Stands, HasCount, IsRecord, IsHalfway, IsForeign};
 ghost use Rattle.ep_journal.specs.Reads.{ReadsUpTo};
 ghost use Rattle.ep_journal.specs.Refusals.{OpenRefused, AppendRefused, ReadRefused};
@@ -50,6 +50,7 @@ impl<D: Disk> Journal<D> {
         ensures refused { IfErr result (λ refused. OpenRefused (IsForeign (D.told disk)) (IsSure D.is_steady D.stops_alone D.left disk) (D.failures disk) (D.failures refused.back) refused.why) }
         ensures foreign { (c : Contents) → D.told disk ≡ Some c → is_foreign c.seen ≡ true → IsErr result }
         ensures untouched { (c : Contents) → D.told disk ≡ Some c → IfErr result (λ refused. refused.why ≡ JournalBad.Foreign → D.told refused.back ≡ Some (settled c.seen)) }
+        ensures synced { (c d : Contents) → D.told disk ≡ Some c → IfErr result (λ refused. D.told refused.back ≡ Some d → (d.synced ≡ c.synced) ⊎ IsMending c.seen d.synced) }
         // Five bytes are read for each record, and at most fourteen beside them.
         ensures reads { IfOk result (λ journal. ReadsUpTo (D.bytes_read disk) (D.bytes_read (disk_of journal)) (5 * count_of journal + 14)) }
         ensures reads_of_file { (c : Contents) → D.told disk ≡ Some c → MatchResult result
@@ -87,6 +88,8 @@ impl<D: Disk> Journal<D> {
         ensures refused { IfErr result (OpenRefused (IsForeign (D.told (disk_of self.old))) (IsSure D.is_steady D.stops_alone D.left (disk_of self.old)) (D.failures (disk_of self.old)) (D.failures (disk_of self.new))) }
         ensures foreign { (c : Contents) → D.told (disk_of self.old) ≡ Some c → is_foreign c.seen ≡ true → IsErr result }
         ensures untouched { (c : Contents) → D.told (disk_of self.old) ≡ Some c → IsErrOf result JournalBad.Foreign → D.told (disk_of self.new) ≡ Some (settled c.seen) }
+        // What was synced is what it was, or what an opening may leave of the file.
+        ensures synced { (c d : Contents) → D.told (disk_of self.old) ≡ Some c → D.told (disk_of self.new) ≡ Some d → OnErr result ((d.synced ≡ c.synced) ⊎ IsMending c.seen d.synced) }
         ensures reads { OnOk result (ReadsUpTo (D.bytes_read (disk_of self.old)) (D.bytes_read (disk_of self.new)) (5 * count_of self.new + 14)) }
         ensures reads_of_file { (c : Contents) → D.told (disk_of self.old) ≡ Some c → ReadsUpTo (D.bytes_read (disk_of self.old)) (D.bytes_read (disk_of self.new)) (5 * length (records_of c.seen) + 14) }
 
@@ -140,6 +143,11 @@ impl<D: Disk> Journal<D> {
             → LeavesOnly D.moment D.since (disk_of self.old) (disk_of self.new) (IsBeforeOrAfter (records_of c.seen) framed.now) }
         ensures by_gate { (c : Contents) → D.told (disk_of self.old) ≡ Some c
             → LeavesOnly D.moment D.since (disk_of self.old) (disk_of self.new) (IsByGate (closed_gate c.seen) (records_of c.seen) framed.now) }
+        // Whatever it leaves, an opening that stops half-way finds no other record behind the gate.
+        ensures unfinished { (c : Contents) → D.told (disk_of self.old) ≡ Some c
+            → LeavesOnly D.moment D.since (disk_of self.old) (disk_of self.new) (IsUnfinished c.seen framed.now) }
+        // What was synced stands for the old records until it has answered Ok.
+        ensures synced { (c d : Contents) → D.told (disk_of self.old) ≡ Some c → D.told (disk_of self.new) ≡ Some d → OnErr result ((stands_for d.synced ≡ Some (records_of c.seen)) × IsUnfinished c.seen framed.now d.synced) }
         // Once it has answered Ok each crash leaves the new one.
         ensures acknowledged { (c : Contents) → D.told (disk_of self.old) ≡ Some c
             → OnOk result ((image : List ℕ) → IsImage (D.told (disk_of self.new)) image → stands_for image ≡ Some (records_of c.seen ++ framed.now ∷ [])) }
@@ -214,6 +222,34 @@ impl<D: Disk> Journal<D> {
                 Err(JournalBad::Disk(self.disk.faults()))
             }
         }
+    }
+
+    /// The greatest length of its file.
+    pub fn limit(&self) -> u64
+        ensures { result ≡ limit_of self.now }
+    {
+        self.limit
+    }
+
+    /// The place of the closed gate, which is the file's last byte.
+    pub fn gate(&self) -> u64
+        ensures { result + 1 ≡ length_of self.now }
+    {
+        self.gate
+    }
+
+    pub fn is_open(&self) -> bool
+        ensures ready { IsReady D.told self.now → result ≡ true }
+        ensures closed { IsClosed self.now → result ≡ false }
+    {
+        self.is_open
+    }
+
+    /// How often the disk has failed.
+    pub fn faults(&self) -> u64
+        ensures { result ≡ D.failures (disk_of self.now) }
+    {
+        self.disk.faults()
     }
 
     pub fn into_disk(self) -> D

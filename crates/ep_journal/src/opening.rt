@@ -27,6 +27,7 @@ fn close_gate<D: Disk>(disk: &mut D, gate: u64) -> Result<(), Failed>
     ensures done { (file : List ℕ) → IsClosing file gate → D.told disk.old ≡ Some (settled file) → OnOk result (D.told disk.new ≡ Some (settled (zeroed file))) }
     ensures longer { OnOk result (Reaches (D.told disk.new) (gate + 1)) }
     ensures room { ((D.room disk.old).calls ≤ (D.room disk.new).calls + 2) }
+    ensures synced { (file : List ℕ) (d : Contents) → IsClosing file gate → D.told disk.old ≡ Some (settled file) → D.told disk.new ≡ Some d → OnErr result (IsMending file d.synced) }
     ensures tells { D.told disk.old ≡ None → D.told disk.new ≡ None }
     ensures marks { KeepsMarks D.is_steady D.stops_alone D.left disk.old disk.new }
     ensures reads { ReadsUpTo (D.bytes_read disk.old) (D.bytes_read disk.new) 1 }
@@ -47,6 +48,7 @@ fn cut_rest<D: Disk>(disk: &mut D, gate: u64, total: u64) -> Result<(), Failed>
     requires room { HasRoom (D.room disk.old) 2 0 }
     ensures crash { (file : List ℕ) → IsClosing file gate → total ≡ length file → D.told disk.old ≡ Some (settled (zeroed file)) → LeavesOnly D.moment D.since disk.old disk.new (IsMending file) }
     ensures done { (file : List ℕ) → IsClosing file gate → total ≡ length file → D.told disk.old ≡ Some (settled (zeroed file)) → OnOk result (D.told disk.new ≡ Some (settled (mended file))) }
+    ensures synced { (file : List ℕ) (d : Contents) → IsClosing file gate → D.told disk.old ≡ Some (settled (zeroed file)) → D.told disk.new ≡ Some d → OnErr result (IsMending file d.synced) }
     ensures tells { D.told disk.old ≡ None → D.told disk.new ≡ None }
     ensures marks { KeepsMarks D.is_steady D.stops_alone D.left disk.old disk.new }
     ensures reads { ReadsUpTo (D.bytes_read disk.old) (D.bytes_read disk.new) 0 }
@@ -67,6 +69,7 @@ fn make_fresh<D: Disk>(disk: &mut D, total: u64) -> Result<(), Failed>
     requires room { HasRoom (D.room disk.old) 2 9 }
     ensures crash { (file : List ℕ) → total ≡ length file → D.told disk.old ≡ Some (settled file) → LeavesOnly D.moment D.since disk.old disk.new (IsMending file) }
     ensures done { (file : List ℕ) → total ≡ length file → D.told disk.old ≡ Some (settled file) → OnOk result (D.told disk.new ≡ Some (settled (mended file))) }
+    ensures synced { (file : List ℕ) (d : Contents) → total ≡ length file → D.told disk.old ≡ Some (settled file) → D.told disk.new ≡ Some d → OnErr result (IsMending file d.synced) }
     ensures tells { D.told disk.old ≡ None → D.told disk.new ≡ None }
     ensures marks { KeepsMarks D.is_steady D.stops_alone D.left disk.old disk.new }
     ensures reads { ReadsUpTo (D.bytes_read disk.old) (D.bytes_read disk.new) 9 }
@@ -134,6 +137,7 @@ fn mend<D: Disk>(alloc: Global, disk: &mut D, total: u64) -> Result<Found, DiskB
     ensures done { (file : List ℕ) → IsLongJournal file total → D.told disk.old ≡ Some (settled file) → OnOk result (D.told disk.new ≡ Some (settled (mended file))) }
     ensures gates { (file : List ℕ) → IsLongJournal file total → D.told disk.old ≡ Some (settled file) → IfOk result (λ found. (found.gates.items ≡ gates_of 8 (records_of file)) × (found.gate ≡ closed_gate file)) }
     ensures spaced { IfOk result (λ found. AreSpaced found.gates.items found.gate) }
+    ensures synced { (file : List ℕ) (d : Contents) → IsLongJournal file total → D.told disk.old ≡ Some (settled file) → D.told disk.new ≡ Some d → OnErr result (IsMending file d.synced) }
     ensures tells { D.told disk.old ≡ None → D.told disk.new ≡ None }
     ensures marks { KeepsMarks D.is_steady D.stops_alone D.left disk.old disk.new }
     ensures reads { IfOk result (λ found. ReadsUpTo (D.bytes_read disk.old) (D.bytes_read disk.new) (5 * length found.gates.items + 6)) }
@@ -157,6 +161,7 @@ fn find_journal<D: Disk>(alloc: Global, disk: &mut D) -> Result<Option<Found>, D
     ensures spaced { IfOk result (λ found. IfSome found (λ f. AreSpaced f.gates.items f.gate)) }
     ensures foreign { (file : List ℕ) → D.told disk.old ≡ Some (settled file) → IfOk result (λ found. is_none found ≡ is_foreign file) }
     ensures untouched { IfOk result (λ found. IfNone found (D.told disk.new ≡ D.told disk.old)) }
+    ensures synced { (file : List ℕ) (d : Contents) → D.told disk.old ≡ Some (settled file) → D.told disk.new ≡ Some d → OnErr result (IsMending file d.synced) }
     ensures tells { D.told disk.old ≡ None → D.told disk.new ≡ None }
     ensures marks { KeepsMarks D.is_steady D.stops_alone D.left disk.old disk.new }
     ensures reads { IfOk result (λ found. IfSome found (λ f. ReadsUpTo (D.bytes_read disk.old) (D.bytes_read disk.new) (5 * length f.gates.items + 14))) }
@@ -193,6 +198,7 @@ pub fn open_disk<D: Disk>(alloc: Global, disk: &mut D) -> Result<Found, JournalB
     ensures native { (c : Contents) → D.told disk.old ≡ Some c → OnOk result (is_foreign c.seen ≡ false) }
     ensures spaced { IfOk result (λ found. AreSpaced found.gates.items found.gate) }
     ensures refused { IfErr result (OpenRefused (IsForeign (D.told disk.old)) (IsSure D.is_steady D.stops_alone D.left disk.old) (D.failures disk.old) (D.failures disk.new)) }
+    ensures synced { (c d : Contents) → D.told disk.old ≡ Some c → D.told disk.new ≡ Some d → OnErr result ((d.synced ≡ c.synced) ⊎ IsMending c.seen d.synced) }
     ensures untouched { (c : Contents) → D.told disk.old ≡ Some c → IsErrOf result JournalBad.Foreign → D.told disk.new ≡ Some (settled c.seen) }
     ensures marks { KeepsMarks D.is_steady D.stops_alone D.left disk.old disk.new }
     ensures reads { IfOk result (λ found. ReadsUpTo (D.bytes_read disk.old) (D.bytes_read disk.new) (5 * length found.gates.items + 14)) }

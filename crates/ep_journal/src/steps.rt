@@ -5,7 +5,7 @@ ghost use Rattle.ep_outside.specs.Disk.{HasRoom, KeepsMarks, Contents, IsImage, 
 ghost use Rattle.ep_outside.specs.Images.{Torn, Front};
 ghost use Rattle.ep_outside.specs.Outside.{HasCause};
 ghost use Rattle.ep_outside.specs.Moments.{LeavesOnly};
-ghost use Rattle.ep_journal.specs.File.{records_of, stands_for, IsByGate};
+ghost use Rattle.ep_journal.specs.File.{records_of, stands_for, IsByGate, IsUnfinished};
 ghost use Rattle.ep_journal.specs.Repair.{grown_file, IsStored};
 ghost use Rattle.ep_journal.specs.Held.{IsHalfway};
 ghost use Rattle.ep_journal.specs.Reads.{ReadsUpTo};
@@ -19,6 +19,7 @@ pub fn put<D: Disk>(disk: &mut D, at: u64, bytes: &[u8]) -> Result<(), Failed>
     requires room { HasRoom (D.room disk.old) 2 (length bytes.now) }
     ensures crash { (s : List ℕ) → D.told disk.old ≡ Some (settled s) → at ≤ length s → LeavesOnly D.moment D.since disk.old disk.new (Torn at (length bytes.now) s) }
     ensures done { (s : List ℕ) → D.told disk.old ≡ Some (settled s) → OnOk result (D.told disk.new ≡ Some (settled (written s at bytes.now))) }
+    ensures synced { (s : List ℕ) (d : Contents) → D.told disk.old ≡ Some (settled s) → D.told disk.new ≡ Some d → OnErr result (d.synced ≡ s) }
     ensures longer { (n : ℕ) → Reaches (D.told disk.old) n → OnOk result (Reaches (D.told disk.new) n) }
     ensures tells { D.told disk.old ≡ None → D.told disk.new ≡ None }
     ensures room { ((D.room disk.old).calls ≤ (D.room disk.new).calls + 2) × ((D.room disk.old).bytes ≤ (D.room disk.new).bytes + length bytes.now) }
@@ -43,6 +44,7 @@ pub fn clip<D: Disk>(disk: &mut D, to: u64) -> Result<(), Failed>
     requires room { HasRoom (D.room disk.old) 2 0 }
     ensures crash { (s : List ℕ) → D.told disk.old ≡ Some (settled s) → to ≤ length s → LeavesOnly D.moment D.since disk.old disk.new (Front to s) }
     ensures done { (s : List ℕ) → D.told disk.old ≡ Some (settled s) → OnOk result (D.told disk.new ≡ Some (settled (take to s))) }
+    ensures synced { (s : List ℕ) (d : Contents) → D.told disk.old ≡ Some (settled s) → D.told disk.new ≡ Some d → OnErr result (d.synced ≡ s) }
     ensures tells { D.told disk.old ≡ None → D.told disk.new ≡ None }
     ensures cause { HasCause (D.failures disk.old) (D.failures disk.new) (D.is_steady disk.old) (D.is_steady disk.new) (IsErr result) }
     ensures reads { ReadsUpTo (D.bytes_read disk.old) (D.bytes_read disk.new) 0 }
@@ -59,6 +61,7 @@ pub fn settle<D: Disk>(disk: &mut D) -> Result<(), Failed>
     requires { HasRoom (D.room disk.old) 1 0 }
     ensures crash { LeavesOnly D.moment D.since disk.old disk.new (IsImage (D.told disk.old)) }
     ensures done { (c : Contents) → D.told disk.old ≡ Some c → OnOk result (D.told disk.new ≡ Some (settled c.seen)) }
+    ensures synced { (c d : Contents) → D.told disk.old ≡ Some c → D.told disk.new ≡ Some d → OnErr result (d.synced ≡ c.synced) }
     ensures tells { D.told disk.old ≡ None → D.told disk.new ≡ None }
     ensures cause { HasCause (D.failures disk.old) (D.failures disk.new) (D.is_steady disk.old) (D.is_steady disk.new) (IsErr result) }
     ensures reads { ReadsUpTo (D.bytes_read disk.old) (D.bytes_read disk.new) 0 }
@@ -74,6 +77,8 @@ pub fn store<D: Disk>(disk: &mut D, gate: u64, bytes: &[u8]) -> Result<(), Faile
     requires inside { Reaches (D.told disk.old) (gate + 1) }
     requires room { HasRoom (D.room disk.old) 4 (length bytes.now + 1) }
     ensures crash { (file rec : List ℕ) → IsStored file rec gate bytes.now → D.told disk.old ≡ Some (settled file) → LeavesOnly D.moment D.since disk.old disk.new (IsByGate gate (records_of file) rec) }
+    ensures unfinished { (file rec : List ℕ) → IsStored file rec gate bytes.now → D.told disk.old ≡ Some (settled file) → LeavesOnly D.moment D.since disk.old disk.new (IsUnfinished file rec) }
+    ensures synced { (file rec : List ℕ) (d : Contents) → IsStored file rec gate bytes.now → D.told disk.old ≡ Some (settled file) → D.told disk.new ≡ Some d → OnErr result ((stands_for d.synced ≡ Some (records_of file)) × IsUnfinished file rec d.synced) }
     ensures done { (file rec : List ℕ) → IsStored file rec gate bytes.now → D.told disk.old ≡ Some (settled file) → OnOk result (D.told disk.new ≡ Some (settled (grown_file file rec))) }
     ensures stopped_early { (file rec : List ℕ) (k : ℕ) → IsStored file rec gate bytes.now → D.told disk.old ≡ Some (settled file) → k < 3 → D.left disk.old ≡ Some k → (image : List ℕ) → IsImage (D.told disk.new) image → stands_for image ≡ Some (records_of file) }
     ensures halfway { (file rec : List ℕ) → IsStored file rec gate bytes.now → D.told disk.old ≡ Some (settled file) → D.stops_alone disk.old ≡ true → D.left disk.old ≡ Some 3 → IsHalfway (D.told disk.new) (records_of file) rec }

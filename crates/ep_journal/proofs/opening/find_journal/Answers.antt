@@ -1,3 +1,5 @@
+use Rattle.ep_journal.proofs.Syncing.{same_synced, on_err_of}
+use Rattle.ep_journal.proofs.Sparing.{the_file}
 use Rattle.std.proofs.Common.{◌≡◌, ◌∙◌, ap, arith, sym, rules, true, List, ℕ}
 use Rattle.ep_outside.specs.Disk.{settled}
 use Rattle.ep_outside.proofs.Moments.{started, goes_on, weaker, joined}
@@ -122,3 +124,12 @@ returns-clause-reads_of_file g c file told =
     let well : c.in_ok-begins_well.field-0 ≡ true = search rules in
     let j = long_journal file c.in_ok-total.total _ told_r c.in_ok-total.ensures.value c.if-total-le9.false (sym (c.in_ok-begins_well.ensures.begins (settled file) told_l) ∙ well) in
     omega (arith, none_read _ _ c.reserve.ensures.bytes_read, none_read _ _ c.length.ensures.bytes_read, c.begins_well.ensures.reads, c.mend.ensures.reads_of_file file j told_b)
+
+pub returns-then-is_err-clause-synced : goal.returns-then-is_err-clause-synced
+returns-then-is_err-clause-synced g c file d told now = the_file file d.synced (same_synced _ file d (c.reserve.ensures.same ∙ told) now)
+
+pub returns-in_err-total-clause-synced : goal.returns-in_err-total-clause-synced
+returns-in_err-total-clause-synced g c file d told now = on_err_of _ _ (the_file file d.synced (same_synced _ file d (c.length.ensures.same ∙ (c.reserve.ensures.same ∙ told)) now))
+
+pub returns-in_err-begins_well-clause-synced : goal.returns-in_err-begins_well-clause-synced
+returns-in_err-begins_well-clause-synced g c file d told now = on_err_of _ _ (the_file file d.synced (same_synced _ file d (c.begins_well.ensures.same ∙ (c.length.ensures.same ∙ (c.reserve.ensures.same ∙ told))) now))

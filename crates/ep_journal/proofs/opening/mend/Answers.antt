@@ -1,3 +1,5 @@
+use Rattle.ep_journal.proofs.Syncing.{same_synced, on_err_of}
+use Rattle.ep_journal.proofs.Sparing.{the_file}
 use Rattle.std.proofs.Common.{◌∙◌, arith}
 use Rattle.ep_outside.specs.Disk.{settled}
 use Rattle.ep_outside.proofs.Moments.{weaker, joined}
@@ -41,3 +43,16 @@ returns-in_err-cut_rest-clause-reads_of_file g c file j told = omega (arith, c.f
 
 pub returns-clause-reads_of_file : goal.returns-clause-reads_of_file
 returns-clause-reads_of_file g c file j told = omega (arith, c.find_gates.ensures.reads_of_file (settled file) told j.total_is, c.close_gate.ensures.reads, c.cut_rest.ensures.reads)
+
+pub returns-in_err-found-clause-synced : goal.returns-in_err-found-clause-synced
+returns-in_err-found-clause-synced g c file d j told now = on_err_of _ _ (the_file file d.synced (same_synced _ file d (c.find_gates.ensures.same ∙ told) now))
+
+pub returns-in_err-close_gate-clause-synced : goal.returns-in_err-close_gate-clause-synced
+returns-in_err-close_gate-clause-synced g c file d j told now =
+    let cl = closing file c.args.total _ _ _ j told c.in_ok-found.ensures.found in
+    on_err_of _ _ (c.in_err-close_gate.ensures.synced file d cl (c.find_gates.ensures.same ∙ told) now)
+
+pub returns-in_err-cut_rest-clause-synced : goal.returns-in_err-cut_rest-clause-synced
+returns-in_err-cut_rest-clause-synced g c file d j told now =
+    let cl = closing file c.args.total _ _ _ j told c.in_ok-found.ensures.found in
+    on_err_of _ _ (c.in_err-cut_rest.ensures.synced file d cl (c.in_ok-close_gate.ensures.done file cl (c.find_gates.ensures.same ∙ told)) now)

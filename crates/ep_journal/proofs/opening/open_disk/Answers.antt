@@ -1,3 +1,5 @@
+use Rattle.ep_journal.proofs.Syncing.{same_synced}
+use Rattle.ep_journal.proofs.Sparing.{the_file}
 use Rattle.std.proofs.Common.{◌∙◌, arith, inr, subst, sym, Option}
 use Rattle.ep_outside.specs.Disk.{Contents, IsImage}
 use Rattle.ep_outside.specs.Moments.{LeavesOnly}
@@ -73,3 +75,14 @@ returns-in-Err-Failed-clause-reads_of_file g c k told = omega (arith, none_read 
 
 pub returns-in-Err-NoMemory-clause-reads_of_file : goal.returns-in-Err-NoMemory-clause-reads_of_file
 returns-in-Err-NoMemory-clause-reads_of_file g c k told = omega (arith, none_read _ _ c.reserve.ensures.bytes_read, c.settle.ensures.reads, c.find_journal.ensures.reads_of_file k.seen (c.in-Ok.ensures.done k (c.reserve.ensures.same ∙ told)))
+
+pub returns-in-Ok-None-clause-synced : goal.returns-in-Ok-None-clause-synced
+returns-in-Ok-None-clause-synced g c k d told now =
+    let same = rw c.in-Ok-None.field-0-is at c.in-Ok-None.ensures.untouched in
+    inr (the_file k.seen d.synced (same_synced _ k.seen d (same ∙ c.in-Ok.ensures.done k (c.reserve.ensures.same ∙ told)) now))
+
+pub returns-in-Err-Failed-clause-synced : goal.returns-in-Err-Failed-clause-synced
+returns-in-Err-Failed-clause-synced g c k d told now = inr (c.in-Err-Failed.ensures.synced k.seen d (c.in-Ok.ensures.done k (c.reserve.ensures.same ∙ told)) now)
+
+pub returns-in-Err-NoMemory-clause-synced : goal.returns-in-Err-NoMemory-clause-synced
+returns-in-Err-NoMemory-clause-synced g c k d told now = inr (c.in-Err-NoMemory.ensures.synced k.seen d (c.in-Ok.ensures.done k (c.reserve.ensures.same ∙ told)) now)

@@ -1,3 +1,4 @@
+use Rattle.ep_journal.proofs.Syncing.{cut_keeps, clip_keeps, on_err_of}
 use Rattle.ep_outside.specs.Images.{Front}
 use Rattle.ep_outside.proofs.Images.{after_cut, whole_front, only_told, sync_images, cut_tells, sync_tells}
 use Rattle.ep_outside.proofs.Moments.{started, goes_on}
@@ -29,3 +30,9 @@ returns-in_err-cut-clause-crash g c s told inside =
     goes_on disk.moment disk.since old old c.cut.new.self P _
     (started disk.moment disk.since old P (λ i left. whole_front _ s i inside (only_told s i _ told (g.met.D.Disk.only_now old i left))))
     c.cut.ensures.call.time (after_cut s _ _ _ _ inside told c.cut.ensures.cuts)
+
+pub returns-in_err-cut-clause-synced : goal.returns-in_err-cut-clause-synced
+returns-in_err-cut-clause-synced g c s d told now = on_err_of _ _ (cut_keeps _ _ _ _ s d c.cut.ensures.cuts told now)
+
+pub returns-clause-synced : goal.returns-clause-synced
+returns-clause-synced g c s d told now = clip_keeps _ _ _ _ _ _ s d c.cut.ensures.cuts c.sync.ensures.syncs told now

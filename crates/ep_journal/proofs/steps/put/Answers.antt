@@ -4,6 +4,7 @@ use Rattle.ep_outside.specs.Images.{Torn}
 use Rattle.ep_outside.proofs.Images.{after_write, untorn, only_told, sync_images, wrote_tells, sync_tells, wrote_seen}
 use Rattle.ep_outside.proofs.Moments.{started, goes_on}
 use Rattle.ep_outside.proofs.Stops.{one_less, two_less, stops_within_two, goes_through, OnOk-of}
+use Rattle.ep_journal.proofs.Syncing.{write_keeps, put_keeps, on_err_of}
 use Rattle.ep_journal.proofs.steps.put.Goals as goal
 
 pub returns-in_err-write_at-clause-crash : goal.returns-in_err-write_at-clause-crash
@@ -49,3 +50,9 @@ pub returns-clause-goes_through : goal.returns-clause-goes_through
 returns-clause-goes_through g c k alone is =
     let more : k + 2 ≡ k + 1 + 1 = omega arith in
     goes_through _ _ _ _ _ c.sync.result k (c.write_at.ensures.call.alone.same ∙ alone) (one_less _ _ c.write_at.result (k + 1) (is ∙ ap (λ (n : ℕ). Some n) more) c.write_at.ensures.call.stops) c.sync.ensures.call.alone
+
+pub returns-in_err-write_at-clause-synced : goal.returns-in_err-write_at-clause-synced
+returns-in_err-write_at-clause-synced g c s d told now = on_err_of _ _ (write_keeps _ _ _ _ _ s d c.write_at.ensures.writes told now)
+
+pub returns-clause-synced : goal.returns-clause-synced
+returns-clause-synced g c s d told now = put_keeps _ _ _ _ _ _ _ s d c.write_at.ensures.writes c.sync.ensures.syncs told now

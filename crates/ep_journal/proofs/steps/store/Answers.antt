@@ -1,10 +1,14 @@
+use Rattle.std.proofs.Common.{inl, inr, take, length}
+use Rattle.std.proofs.lemmas.List.{take_all}
 use Rattle.std.proofs.Common.{◌≡◌, ◌∙◌, ⊎_elim, ap, subst, arith, ◌+◌, ◌<◌, ◌≤◌, OnOk, List, ℕ, Some}
 use Rattle.std.proofs.lemmas.Bool.{cases_lt}
 use Rattle.ep_outside.specs.Disk.{settled}
 use Rattle.ep_outside.proofs.Images.{only_told}
 use Rattle.ep_outside.proofs.Moments.{joined, weaker}
-use Rattle.ep_journal.specs.File.{records_of, IsByGate}
-use Rattle.ep_journal.proofs.Keeping.{first, first_old, second, staged_is, staged_old, grown_is, halfway, inside, inside_staged, bytes_less}
+use Rattle.ep_journal.specs.File.{records_of, stands_for, IsByGate, IsUnfinished}
+use Rattle.ep_journal.proofs.Keeping.{first, first_old, first_unfinished, second, second_unfinished, staged_is, staged_old, grown_is, halfway, inside, inside_staged, bytes_less}
+use Rattle.ep_journal.proofs.Append.{stands}
+use Rattle.ep_journal.proofs.Syncing.{on_err, on_err_of}
 use Rattle.ep_journal.proofs.steps.store.Goals as goal
 
 pub returns-in_err-put-clause-crash : goal.returns-in_err-put-clause-crash
@@ -21,6 +25,30 @@ returns-clause-crash g c file rec st told =
     joined g.D.Disk.moment g.D.Disk.since _ _ _ P
     (weaker g.D.Disk.moment g.D.Disk.since _ _ _ P (first file rec _ _ st) (c.put.ensures.crash file told (inside file rec _ _ st)))
     (weaker g.D.Disk.moment g.D.Disk.since _ _ _ P (second file rec _ _ st) (c.put-2.ensures.crash _ staged (inside_staged file rec _ _ st)))
+
+pub returns-in_err-put-clause-unfinished : goal.returns-in_err-put-clause-unfinished
+returns-in_err-put-clause-unfinished g c file rec st told =
+    weaker g.D.Disk.moment g.D.Disk.since _ _ _ (IsUnfinished file rec) (first_unfinished file rec _ _ st) (c.put.ensures.crash file told (inside file rec _ _ st))
+
+pub returns-clause-unfinished : goal.returns-clause-unfinished
+returns-clause-unfinished g c file rec st told =
+    let P = IsUnfinished file rec in
+    let staged = c.in_ok-put.ensures.done file told ∙ ap (λ (l : List ℕ). Some (settled l)) (staged_is file rec _ _ st) in
+    joined g.D.Disk.moment g.D.Disk.since _ _ _ P
+    (weaker g.D.Disk.moment g.D.Disk.since _ _ _ P (first_unfinished file rec _ _ st) (c.put.ensures.crash file told (inside file rec _ _ st)))
+    (weaker g.D.Disk.moment g.D.Disk.since _ _ _ P (second_unfinished file rec _ _ st) (c.put-2.ensures.crash _ staged (inside_staged file rec _ _ st)))
+
+pub returns-in_err-put-clause-synced : goal.returns-in_err-put-clause-synced
+returns-in_err-put-clause-synced g c file rec d st told now =
+    let is = c.in_err-put.ensures.synced file d told now in
+    let left : (stands_for d.synced ≡ Some (records_of file)) × IsUnfinished file rec d.synced =
+    (ap stands_for is ∙ stands file st.rest.begins, inl (ap (λ (l : List ℕ). take (length file) l) is ∙ take_all (length file) file (omega arith))) in
+    on_err_of _ _ left
+
+pub returns-clause-synced : goal.returns-clause-synced
+returns-clause-synced g c file rec d st told now =
+    let staged = c.in_ok-put.ensures.done file told ∙ ap (λ (l : List ℕ). Some (settled l)) (staged_is file rec _ _ st) in
+    on_err c.put-2.result _ _ (λ is. (staged_old file rec _ _ st d.synced is, inr (0, is))) (c.put-2.ensures.synced _ d staged now)
 
 pub returns-clause-done : goal.returns-clause-done
 returns-clause-done g c file rec st told =

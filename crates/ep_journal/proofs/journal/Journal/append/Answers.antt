@@ -1,7 +1,7 @@
 use Rattle.std.proofs.Common.{refl, arith, ◌-◌}
 use Rattle.ep_outside.proofs.Moments.{started, weaker}
 use Rattle.ep_journal.specs.File.{records_of, IsBeforeOrAfter}
-use Rattle.ep_journal.proofs.Keeping.{old_image, gate_image, or_more, ready, adds, holds, spaced, acknowledged, gate_reached, IsFrameOf}
+use Rattle.ep_journal.proofs.Keeping.{old_image, old_unfinished, old_synced, gate_image, or_more, ready, adds, holds, spaced, acknowledged, gate_reached, IsFrameOf}
 use Rattle.ep_journal.proofs.journal.Journal.append.Goals as goal
 
 pub store-requires-clause-inside : goal.store-requires-clause-inside
@@ -65,3 +65,32 @@ pub returns-clause-stopped_early : goal.returns-clause-stopped_early
 returns-clause-stopped_early g c k calls told few is image left =
     let r = ready k _ _ _ c.args.framed.now c.as_slice-bytes.result.now told c.requires.ready.held (record { is = c.as_slice-bytes.ensures.frame; small = c.as_slice-bytes.ensures.small }) in
     c.store.ensures.stopped_early k.seen c.args.framed.now calls r.0 r.1 few is image left
+
+pub returns-in-None-clause-unfinished : goal.returns-in-None-clause-unfinished
+returns-in-None-clause-unfinished g c k told =
+    started g.D.Disk.moment g.D.Disk.since _ _ (λ i left. old_unfinished k _ _ _ _ i told c.requires.ready.held (g.met.D.Disk.only_now _ i left))
+
+pub returns-then-self-end-clause-unfinished : goal.returns-then-self-end-clause-unfinished
+returns-then-self-end-clause-unfinished g c k told =
+    started g.D.Disk.moment g.D.Disk.since _ _ (λ i left. old_unfinished k _ _ _ _ i told c.requires.ready.held (g.met.D.Disk.only_now _ i left))
+
+pub returns-in-Err-clause-unfinished : goal.returns-in-Err-clause-unfinished
+returns-in-Err-clause-unfinished g c k told =
+    let r = ready k _ _ _ c.args.framed.now c.as_slice-bytes.result.now told c.requires.ready.held (record { is = c.as_slice-bytes.ensures.frame; small = c.as_slice-bytes.ensures.small }) in
+    c.store.ensures.unfinished k.seen c.args.framed.now r.0 r.1
+
+pub returns-clause-unfinished : goal.returns-clause-unfinished
+returns-clause-unfinished g c k told =
+    let r = ready k _ _ _ c.args.framed.now c.as_slice-bytes.result.now told c.requires.ready.held (record { is = c.as_slice-bytes.ensures.frame; small = c.as_slice-bytes.ensures.small }) in
+    c.store.ensures.unfinished k.seen c.args.framed.now r.0 r.1
+
+pub returns-in-None-clause-synced : goal.returns-in-None-clause-synced
+returns-in-None-clause-synced g c k d told now = old_synced k d _ _ _ _ told now c.requires.ready.held
+
+pub returns-then-self-end-clause-synced : goal.returns-then-self-end-clause-synced
+returns-then-self-end-clause-synced g c k d told now = old_synced k d _ _ _ _ told now c.requires.ready.held
+
+pub returns-in-Err-clause-synced : goal.returns-in-Err-clause-synced
+returns-in-Err-clause-synced g c k d told now =
+    let r = ready k _ _ _ c.args.framed.now c.as_slice-bytes.result.now told c.requires.ready.held (record { is = c.as_slice-bytes.ensures.frame; small = c.as_slice-bytes.ensures.small }) in
+    c.in-Err.ensures.synced k.seen c.args.framed.now d r.0 r.1 now

@@ -1,3 +1,5 @@
+use Rattle.ep_journal.proofs.Sparing.{the_file}
+use Rattle.ep_journal.proofs.Syncing.{on_err}
 use Rattle.std.proofs.Common.{◌∙◌, inl, inr, ⊎_elim, ℕ, List, subst}
 use Rattle.ep_outside.specs.Disk.{IsImage, settled}
 use Rattle.ep_outside.proofs.Images.{only_told}
@@ -18,6 +20,7 @@ returns-clause-opens g c k told =
         file = c.reopen.ensures.file (settled r.0) r.2;
         records = c.reopen.ensures.records (settled r.0) r.2;
         foreign = λ is. subst IsForeign r.2 (foreign_cause c.reopen.result _ _ _ _ c.reopen.ensures.refused is);
+        synced = λ d now. on_err c.reopen.result _ _ (⊎_elim (λ same. the_file r.0 d.synced same) (λ mending. mending)) (c.reopen.ensures.synced (settled r.0) d r.2 now);
       },
     )
 
