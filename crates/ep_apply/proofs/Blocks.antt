@@ -1,6 +1,6 @@
 -- Blocks one after another, and what is seen of their text.
-use Rattle.std.proofs.Common.{◌≡◌, ◌⊎◌, inl, inr, ℕ, suc, ◌+◌, ◌-◌, ◌≤◌, ◌<◌, ◌==◌, Bool, true, false, cond, ◌&&◌, ◌||◌, List, [], ◌∷◌, ◌++◌, length, take, drop, get_or, refl, sym, ap, ◌∙◌, arith, append_assoc, append-nil, length-append, length-drop, take-append-drop}
-use Rattle.std.proofs.lemmas.List.{map-append, take_more, length-map, take-append-le, drop-append-le}
+use Rattle.std.proofs.Common.{◌≡◌, ◌⊎◌, inl, inr, ℕ, suc, ◌+◌, ◌-◌, ◌≤◌, ◌<◌, ◌^◌, ◌==◌, Bool, true, false, cond, ◌&&◌, ◌||◌, List, [], ◌∷◌, ◌++◌, length, take, drop, get_or, refl, sym, ap, ◌∙◌, subst, arith, append_assoc, append-nil, length-append, length-drop, take-append-drop}
+use Rattle.std.proofs.lemmas.List.{map-append, take_more, length-map, take-append-le, drop-append-le, take-map, drop-map}
 use Rattle.std.proofs.lemmas.Bool.{cases_eq}
 use Rattle.std.proofs.lemmas.Bool.Decides.{nat_tests}
 use Rattle.std.proofs.Math.Seq.{take-append-add, drop-append-add, take-length}
@@ -30,6 +30,16 @@ one_block bs b = blocks-append bs (b ∷ []) ∙ ap (λ ds. all_cells bs ++ ds) 
 
 pub next_block : (bs : List (Arc (List Cell) Global)) (i : ℕ) (b : Arc (List Cell) Global) → i < length bs → b ≡ get_or bs i b → all_cells (take (i + 1) bs) ≡ all_cells (take i bs) ++ arc_value b
 next_block bs i b h e = ap all_cells (take_more bs i b h) ∙ one_block (take i bs) (get_or bs i b) ∙ ap (λ (x : Arc (List Cell) Global). all_cells (take i bs) ++ arc_value x) (sym e)
+
+-- a block beside those before it
+pub block_room : (bs : List (Arc (List Cell) Global)) (i : ℕ) (b : Arc (List Cell) Global) → i < length bs → b ≡ get_or bs i b → length (all_cells (take i bs)) + length (arc_value b) ≤ length (all_cells bs)
+block_room bs i b h e =
+    let parts = ap all_cells (sym (take-append-drop (i + 1) bs)) ∙ blocks-append (take (i + 1) bs) (drop (i + 1) bs) in
+    omega (arith, ap length parts, length-append (all_cells (take (i + 1) bs)) (all_cells (drop (i + 1) bs)), ap length (next_block bs i b h e), length-append (all_cells (take i bs)) (arc_value b))
+
+pub some_blocks : (bs : List (Arc (List Cell) Global)) → 1 ≤ length (all_cells bs) → 1 ≤ length bs
+some_blocks [] h = h
+some_blocks (b ∷ bs) h = omega arith
 
 -- ---- what is seen of two texts
 
@@ -126,6 +136,28 @@ seen_holds l s us a e n =
 pub few_lines : (s : Seen) (us : Text) → Sees s us → s.lines ≤ s.units
 few_lines s us a = omega (arith, a.lines, a.units, lines_within us)
 
+-- what is seen of two short texts stays in range
+pub record HasRoom (s t : Seen) : Type 0 where
+  pub units : s.units + t.units < 2 ^ 32
+  pub lines : s.lines + t.lines < 2 ^ 32
+  pub tail : s.tail + t.units < 2 ^ 32
+
+pub seen_room : (s t : Seen) (us vs : Text) → Sees s us → Sees t vs → length us + length vs < 2 ^ 32 → HasRoom s t
+seen_room s t us vs a b h = record {
+  units = omega (arith, a.units, b.units, h);
+  lines = omega (arith, a.units, b.units, few_lines s us a, few_lines t vs b, h);
+  tail = omega (arith, a.units, b.units, a.within, h);
+}
+
+-- a block behind those that were seen
+pub blocks_room : (bs : List (Arc (List Cell) Global)) (i : ℕ) (b : Arc (List Cell) Global) (s t : Seen) → i < length bs → b ≡ get_or bs i b → length (all_cells bs) < 2 ^ 32
+    → Sees s (text_of (all_cells (take i bs))) → Sees t (text_of (arc_value b)) → HasRoom s t
+blocks_room bs i b s t h e short a k = seen_room s t _ _ a k (omega (arith, short, block_room bs i b h e, length_text (all_cells (take i bs)), length_text (arc_value b)))
+
+pub blocks_seen : (bs : List (Arc (List Cell) Global)) (i : ℕ) (b : Arc (List Cell) Global) (s t r : Seen) → i < length bs → b ≡ get_or bs i b → Sees s (text_of (all_cells (take i bs))) → Sees t (text_of (arc_value b))
+    → ((us vs : Text) → Sees s us → Sees t vs → Sees r (us ++ vs)) → Sees r (text_of (all_cells (take (i + 1) bs)))
+blocks_seen bs i b s t r h e a k on = subst (Sees r) (sym (ap text_of (next_block bs i b h e) ∙ text-append (all_cells (take i bs)) (arc_value b))) (on _ _ a k)
+
 -- the last block's text is the end of the text
 pub last_high : (here : Text) (bs : List (Arc (List Cell) Global)) (b : Arc (List Cell) Global) → 1 ≤ length bs → b ≡ get_or bs (length bs - 1) b → 1 ≤ length (arc_value b)
     → ends_high (here ++ text_of (all_cells bs)) ≡ ends_high (text_of (arc_value b))
@@ -137,3 +169,27 @@ last_high here (c ∷ (d ∷ bs)) b some e h =
     let k : length (c ∷ (d ∷ bs)) - 1 ≡ suc (length (d ∷ bs) - 1) = omega arith in
     ap (λ us. ends_high (here ++ us)) (text-append (arc_value c) (all_cells (d ∷ bs))) ∙ ap ends_high (sym (append_assoc here (text_of (arc_value c)) (text_of (all_cells (d ∷ bs)))))
     ∙ last_high (here ++ text_of (arc_value c)) (d ∷ bs) b (omega arith) (e ∙ ap (λ (n : ℕ). get_or (c ∷ (d ∷ bs)) n b) k) h
+
+pub groups_high : (us : Text) (bs gs : List (Arc (List Cell) Global)) (g : Arc (List Cell) Global) → 1 ≤ length gs → g ≡ get_or gs (length gs - 1) g → 1 ≤ length (arc_value g)
+    → ends_high (us ++ text_of (all_cells bs ++ all_cells gs)) ≡ ends_high (text_of (arc_value g))
+groups_high us bs gs g some e h =
+    ap (λ vs. ends_high (us ++ vs)) (text-append (all_cells bs) (all_cells gs)) ∙ ap ends_high (sym (append_assoc us (text_of (all_cells bs)) (text_of (all_cells gs))))
+    ∙ last_high (us ++ text_of (all_cells bs)) gs g some e h
+
+pub blocks_high : (us : Text) (bs gs : List (Arc (List Cell) Global)) (b : Arc (List Cell) Global) → length gs < 1 → 1 ≤ length bs → b ≡ get_or bs (length bs - 1) b → 1 ≤ length (arc_value b)
+    → ends_high (us ++ text_of (all_cells bs ++ all_cells gs)) ≡ ends_high (text_of (arc_value b))
+blocks_high us bs [] b none some e h = ap (λ cs. ends_high (us ++ text_of cs)) (append-nil (all_cells bs)) ∙ last_high us bs b some e h
+blocks_high us bs (g ∷ gs) b none some e h = absurd (omega (arith, none))
+
+pub no_units : (us : Text) → (length us == 0) ≡ true → us ≡ []
+no_units [] h = refl
+no_units (u ∷ us) h = absurd (never (sym (not_zero (suc (length us)) (λ z. omega (arith, z))) ∙ h))
+  where
+    never : false ≡ true → ⊥
+    never e = cc
+
+pub text_take : (n : ℕ) (cs : List Cell) → text_of (take n cs) ≡ take n (text_of cs)
+text_take n cs = sym (take-map (λ (c : Cell). c.unit) n cs)
+
+pub text_drop : (n : ℕ) (cs : List Cell) → text_of (drop n cs) ≡ drop n (text_of cs)
+text_drop n cs = sym (drop-map (λ (c : Cell). c.unit) n cs)

@@ -1,4 +1,4 @@
--- Documents as blocks that they share, and what is kept of each block's text.
+-- Documents as blocks that they share, in groups that they share, and what is kept of the text of each.
 use Rattle.std.specs.Prelude.{◌≡◌, ◌≤◌, ◌-◌, true, List, [], ◌∷◌, ◌++◌, length, take, drop}
 use Rattle.std.specs.Arc.{arc_value}
 use Rattle.std.specs.declared.sync.Arc.{Arc}
@@ -9,7 +9,7 @@ use Rattle.ep_cs.specs.Lines.{count_lines, is_whole_lines}
 use Rattle.ep_apply.specs.PairEnds.{ends_high}
 use Rattle.ep_apply.specs.declared.seen.Seen.{Seen}
 
--- the cells of blocks, one after another
+-- the cells of blocks or of groups, one after another
 abbrev pub all_cells : List (Arc (List Cell) Global) → List Cell
 all_cells [] = []
 all_cells (b ∷ bs) = arc_value b ++ all_cells bs

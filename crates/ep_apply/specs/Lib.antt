@@ -1,4 +1,3 @@
-pub mod Spans
 pub mod Blocks
 pub mod Makes
 pub mod Inside

@@ -9,10 +9,10 @@ ghost use Rattle.ep_apply.specs.Makes.{run_makes};
 use crate::doc::Doc;
 use crate::moving::keep;
 use crate::reading::Reading;
-use crate::span::Seam;
 use crate::writer::Writer;
 use ep_attr::AttrMap;
 use ep_cs::{Change, Kind, Op};
+use ep_parts::Seam;
 use ep_units::NoMemory;
 use std::alloc::Global;
 
@@ -39,7 +39,7 @@ fn apply_op(
     }
 }
 
-/// The document after a change that fits it. It shares the blocks in which nothing is altered.
+/// The document after a change that fits it. It shares the groups and blocks in which nothing is altered.
 pub fn apply(alloc: Global, doc: &Doc, change: &Change) -> Result<Doc, NoMemory>
     requires { Fits change.now doc.now }
     ensures { IfOk result (λ after. after ≡ apply change.now.edit doc.now) }
@@ -57,9 +57,9 @@ pub fn apply(alloc: Global, doc: &Doc, change: &Change) -> Result<Doc, NoMemory>
     }
     let as_it_is = AttrMap::none(alloc);
     keep(alloc, &mut out, &mut rest, doc.len() - at, &as_it_is)?;
-    let blocks = out.finish()?;
+    let groups = out.finish()?;
     Ok(Doc {
-        blocks,
+        groups,
         units: change.new_len(),
     })
 }

@@ -4,16 +4,15 @@ ghost use Rattle.std.specs.Prelude.{◌≡◌, ◌≤◌, length};
 ghost use Rattle.ep_cs.specs.Doc.{text_of};
 ghost use Rattle.ep_apply.specs.Blocks.{Sees};
 
-use crate::parts::Parts;
 use crate::seen::Seen;
-use crate::within::Within;
+use ep_parts::{Parts, Within};
 use std::marker::Model;
 
 /// Some of a document, which isn't empty, and what is seen of its text.
 #[derive(Drop)]
 pub struct Block {
-    parts: Parts,
     seen: Seen,
+    parts: Parts,
 }
 
 impl Model for Block {
@@ -39,7 +38,7 @@ impl Block {
         ensures { result ≡ parts }
     {
         let seen = Seen::of(parts.text());
-        Block { parts, seen }
+        Block { seen, parts }
     }
 
     pub fn seen(&self) -> Seen

@@ -5,28 +5,28 @@ ghost use Rattle.ep_cs.specs.Doc.{text_of};
 ghost use Rattle.ep_cs.specs.Plain.{plain};
 ghost use Rattle.ep_apply.specs.Documents.{IsDocument, insertion};
 
-use crate::block::Block;
+use crate::ahead::Ahead;
+use crate::group::Group;
 use crate::passing::Passing;
 use crate::reading::Reading;
-use crate::span::Seam;
-use crate::within::Within;
 use crate::writer::Writer;
 use ep_attr::AttrMap;
 use ep_cs::{Builder, Change};
+use ep_parts::{Seam, Within};
 use ep_units::{NoMemory, Units};
 use std::alloc::Global;
 use std::marker::Model;
 use std::sync::Arc;
 
-/// How many blocks more a change may make of a document before their list grows.
+/// How many groups more a change may make of a document before their list grows.
 const SPARE: usize = 4;
 
 /// Attributed text: no half of a pair stands alone, the halves of a pair have equal maps, and no map has an empty value.
 ///
-/// It stands in blocks of at most 1,024 UTF-16 units, which documents share.
+/// It stands in groups of at most 32 blocks of at most 1,024 UTF-16 units. Documents share groups and blocks.
 #[derive(Drop)]
 pub struct Doc {
-    pub(crate) blocks: Vec<Arc<Block>>,
+    pub(crate) groups: Vec<Arc<Group>>,
     pub(crate) units: u32,
 }
 
@@ -53,7 +53,7 @@ impl Doc {
         ensures { result ≡ [] }
     {
         Doc {
-            blocks: Vec::new(alloc),
+            groups: Vec::new(alloc),
             units: 0,
         }
     }
@@ -65,7 +65,7 @@ impl Doc {
         let mut out = Writer::with_room(alloc, 1)?;
         out.push(&[10], &AttrMap::none(alloc), Seam::Joined)?;
         Ok(Doc {
-            blocks: out.finish()?,
+            groups: out.finish()?,
             units: 1,
         })
     }
@@ -82,22 +82,23 @@ impl Doc {
         ensures { IfOk result (λ text. text ≡ text_of self.now) }
     {
         let mut text = Units::with_capacity(alloc, self.units as usize)?;
-        for block in &self.blocks {
+        let mut rest = Ahead::of(&self.groups);
+        'all: while let Some(block) = rest.take() {
             text.push_all(block.text())?;
         }
         Ok(text)
     }
 
-    /// The same document again, which shares all its blocks.
+    /// The same document again, which shares all its groups.
     pub fn copy(&self, alloc: Global) -> Result<Doc, NoMemory>
         ensures { IfOk result (λ d. d ≡ self.now) }
     {
-        let mut blocks = Vec::with_capacity(alloc, self.blocks.len())?;
-        for block in &self.blocks {
-            blocks.push(Arc::try_clone(block)?)?;
+        let mut groups = Vec::with_capacity(alloc, self.groups.len())?;
+        for group in &self.groups {
+            groups.push(Arc::try_clone(group)?)?;
         }
         Ok(Doc {
-            blocks,
+            groups,
             units: self.units,
         })
     }
@@ -122,7 +123,7 @@ impl Doc {
     {
         Reading {
             here: Within::nothing(),
-            blocks: self.blocks.as_slice(),
+            ahead: Ahead::of(&self.groups),
         }
     }
 
@@ -132,7 +133,7 @@ impl Doc {
     {
         Passing {
             here: &[],
-            blocks: self.blocks.as_slice(),
+            ahead: Ahead::of(&self.groups),
         }
     }
 
@@ -140,6 +141,6 @@ impl Doc {
     pub(crate) fn writer(&self, alloc: Global) -> Result<Writer, NoMemory>
         ensures { IfOk result (λ w. w ≡ []) }
     {
-        Writer::with_room(alloc, self.blocks.len().saturating_add(SPARE))
+        Writer::with_room(alloc, self.groups.len().saturating_add(SPARE))
     }
 }

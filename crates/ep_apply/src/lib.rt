@@ -1,24 +1,25 @@
 //! Documents, and changes that are made to them.
 #![tactic(auto)]
 
+mod ahead;
 mod applying;
 mod block;
 mod doc;
 mod fitting;
+mod group;
 mod laws;
 mod moving;
-mod parts;
 mod passing;
+mod pile;
 mod reading;
 mod seen;
-mod span;
-mod within;
 mod writer;
 
 pub use applying::apply;
 pub use doc::Doc;
+pub use ep_parts::Stretch;
 pub use fitting::fits;
 pub use laws::{documents_stay, inserted_again};
 pub use passing::Passing;
-pub use reading::{Reading, Stretch};
+pub use reading::Reading;
 pub use seen::Seen;

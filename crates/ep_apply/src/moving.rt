@@ -4,9 +4,9 @@ ghost use Rattle.std.specs.Prelude.{◌≡◌, ◌≤◌, ◌<◌, ◌^◌, ◌+
 ghost use Rattle.ep_cs.specs.Doc.{dressed};
 
 use crate::reading::Reading;
-use crate::span::Seam;
 use crate::writer::Writer;
 use ep_attr::AttrMap;
+use ep_parts::Seam;
 use ep_units::NoMemory;
 use std::alloc::Global;
 
@@ -24,6 +24,10 @@ fn keep_piece(
     ensures done { IfOk result (λ n. out.new ≡ out.old ++ take n rest.old) }
     ensures rest { IfOk result (λ n. rest.new ≡ drop n rest.old) }
 {
+    if let Some(group) = rest.take_group(most) {
+        out.push_group(group)?;
+        return Ok(group.seen().units);
+    }
     if let Some(block) = rest.take_block(most) {
         out.push_block(block)?;
         return Ok(block.seen().units);

@@ -4,16 +4,15 @@ ghost use Rattle.std.specs.Prelude.{◌≡◌, ◌≤◌, length, take, drop};
 ghost use Rattle.ep_apply.specs.Blocks.{Sees};
 ghost use Rattle.ep_apply.specs.PairEnds.{ends_high};
 
-use crate::block::Block;
+use crate::ahead::Ahead;
 use crate::seen::{Seen, ends_high};
 use std::marker::Model;
-use std::sync::Arc;
 
-/// What is left of a text: of the block that is begun, and the blocks behind it.
+/// What is left of a text: of the block that is begun, and what is behind it.
 #[derive(Drop)]
 pub struct Passing<'a> {
     pub(crate) here: &'a [u16],
-    pub(crate) blocks: &'a [Arc<Block>],
+    pub(crate) ahead: Ahead<'a>,
 }
 
 impl<'a> Model for Passing<'a> {
@@ -36,15 +35,12 @@ impl<'a> Passing<'a> {
         ensures rest { self.new ≡ drop result.units self.old }
     {
         if self.here.is_empty() {
-            match self.blocks {
-                [] => return Seen::nothing(),
-                [block, later @ ..] => {
-                    self.blocks = later;
-                    if block.seen().units <= most {
-                        return block.seen();
-                    }
-                    self.here = block.text();
-                }
+            if let Some(seen) = self.ahead.pass(most) {
+                return seen;
+            }
+            match self.ahead.take() {
+                None => return Seen::nothing(),
+                Some(block) => self.here = block.text(),
             }
         }
         let (front, later) = self.here.split_at(self.here.len().min(most as usize));
@@ -69,9 +65,9 @@ impl<'a> Passing<'a> {
     pub fn ends_high(&self) -> bool
         ensures { result ≡ ends_high self.now }
     {
-        match self.blocks {
-            [] => ends_high(self.here),
-            [.., block] => block.seen().high,
+        match self.ahead.ends_high() {
+            None => ends_high(self.here),
+            Some(high) => high,
         }
     }
 }

@@ -4,24 +4,18 @@ ghost use Rattle.std.specs.Prelude.{◌≡◌, ◌≤◌, ◌++◌, [], length, 
 ghost use Rattle.std.specs.Arc.{arc_value};
 ghost use Rattle.ep_cs.specs.Runs.{cells};
 
+use crate::ahead::Ahead;
 use crate::block::Block;
-use crate::within::Within;
-use ep_attr::AttrMap;
+use crate::group::Group;
+use ep_parts::{Stretch, Within};
 use std::marker::Model;
 use std::sync::Arc;
 
-/// A text with one map.
-#[derive(Clone, Copy)]
-pub struct Stretch<'a> {
-    pub text: &'a [u16],
-    pub attrs: &'a AttrMap,
-}
-
-/// What is left of a document: of the block that is begun, and the blocks behind it.
+/// What is left of a document: of the block that is begun, and what is behind it.
 #[derive(Drop)]
 pub struct Reading<'a> {
     pub(crate) here: Within<'a>,
-    pub(crate) blocks: &'a [Arc<Block>],
+    pub(crate) ahead: Ahead<'a>,
 }
 
 impl<'a> Model for Reading<'a> {
@@ -49,14 +43,19 @@ impl<'a> Reading<'a> {
         if let Some(stretch) = self.here.take(most) {
             return Some(stretch);
         }
-        match self.blocks {
-            [] => None,
-            [block, later @ ..] => {
-                self.blocks = later;
-                self.here = block.within();
-                self.here.take(most)
-            }
+        self.here = self.ahead.take()?.within();
+        self.here.take(most)
+    }
+
+    /// Takes the next group, where none is begun and this one has at most so many units.
+    pub(crate) fn take_group(&mut self, most: u32) -> Option<&'a Arc<Group>>
+        ensures { MatchOption result (self.new ≡ self.old)
+            (λ g. (self.old ≡ arc_value g.now ++ self.new) × (1 ≤ length (arc_value g.now)) × (length (arc_value g.now) ≤ most)) }
+    {
+        if !self.here.is_over() {
+            return None;
         }
+        self.ahead.take_group(most)
     }
 
     /// Takes the next block, where none is begun and this one has at most so many units.
@@ -67,16 +66,7 @@ impl<'a> Reading<'a> {
         if !self.here.is_over() {
             return None;
         }
-        match self.blocks {
-            [] => None,
-            [block, later @ ..] => {
-                if block.seen().units > most {
-                    return None;
-                }
-                self.blocks = later;
-                Some(block)
-            }
-        }
+        self.ahead.take_block(most)
     }
 
     /// Takes what is next, of at most so many units, and answers how many these are.
@@ -86,6 +76,9 @@ impl<'a> Reading<'a> {
         ensures units { (1 ≤ result) × (result ≤ most) }
         ensures rest { self.new ≡ drop result self.old }
     {
+        if let Some(group) = self.take_group(most) {
+            return group.seen().units;
+        }
         if let Some(block) = self.take_block(most) {
             return block.seen().units;
         }

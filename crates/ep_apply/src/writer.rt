@@ -6,9 +6,10 @@ ghost use Rattle.ep_cs.specs.Runs.{cells};
 ghost use Rattle.ep_apply.specs.Blocks.{all_cells};
 
 use crate::block::Block;
-use crate::parts::Parts;
-use crate::span::Seam;
+use crate::group::Group;
+use crate::pile::Pile;
 use ep_attr::AttrMap;
+use ep_parts::{Parts, Seam};
 use ep_units::NoMemory;
 use std::alloc::Global;
 use std::marker::Model;
@@ -25,7 +26,7 @@ const PART: usize = 768;
 #[derive(Drop)]
 pub struct Writer {
     alloc: Global,
-    blocks: Vec<Arc<Block>>,
+    pile: Pile,
     open: Parts,
 }
 
@@ -44,36 +45,47 @@ impl Model for Writer {
     ghost view = { written };
 }
 
+/// Makes a block of what is open.
+fn make_block(alloc: Global, pile: &mut Pile, parts: &mut Parts) -> Result<(), NoMemory>
+    requires some { 1 ≤ length parts.old }
+    requires short { length pile.old < 2 ^ 32 }
+    ensures pile { OnOk result (pile.new ≡ pile.old ++ parts.old) }
+    ensures parts { OnOk result (parts.new ≡ []) }
+{
+    let parts = mem::replace(parts, Parts::empty(alloc));
+    pile.add(Arc::new(alloc, Block::new(parts))?)
+}
+
 /// Closes the open block, where it isn't empty.
-fn close(alloc: Global, blocks: &mut Vec<Arc<Block>>, parts: &mut Parts) -> Result<(), NoMemory>
-    ensures blocks { OnOk result (all_cells blocks.new.items ≡ all_cells blocks.old.items ++ parts.old) }
+fn close(alloc: Global, pile: &mut Pile, parts: &mut Parts) -> Result<(), NoMemory>
+    requires { length pile.old < 2 ^ 32 }
+    ensures pile { OnOk result (pile.new ≡ pile.old ++ parts.old) }
     ensures parts { OnOk result (parts.new ≡ []) }
 {
     if parts.len() == 0 {
         return Ok(());
     }
-    let parts = mem::replace(parts, Parts::empty(alloc));
-    blocks.push(Arc::new(alloc, Block::new(parts))?)?;
-    Ok(())
+    make_block(alloc, pile, parts)
 }
 
 impl Writer {
-    /// Nothing written, with room for so many blocks.
-    pub fn with_room(alloc: Global, blocks: usize) -> Result<Writer, NoMemory>
+    /// Nothing written, with room for so many groups.
+    pub fn with_room(alloc: Global, groups: usize) -> Result<Writer, NoMemory>
         ensures { IfOk result (λ w. w ≡ []) }
     {
         Ok(Writer {
             alloc,
-            blocks: Vec::with_capacity(alloc, blocks)?,
+            pile: Pile::with_room(alloc, groups)?,
             open: Parts::empty(alloc),
         })
     }
 
     /// Closes the open block and begins another.
     fn begin(&mut self) -> Result<(), NoMemory>
+        requires { length self.old < 2 ^ 32 }
         ensures { OnOk result (self.new ≡ self.old) }
     {
-        close(self.alloc, &mut self.blocks, &mut self.open)?;
+        close(self.alloc, &mut self.pile, &mut self.open)?;
         self.open = Parts::with_room(self.alloc, MOST)?;
         Ok(())
     }
@@ -122,11 +134,11 @@ impl Writer {
 
     /// Adds a block that the document shares.
     fn share(&mut self, block: &Arc<Block>) -> Result<(), NoMemory>
+        requires { length self.old < 2 ^ 32 }
         ensures { OnOk result (self.new ≡ self.old ++ arc_value block.now) }
     {
-        close(self.alloc, &mut self.blocks, &mut self.open)?;
-        self.blocks.push(Arc::try_clone(block)?)?;
-        Ok(())
+        close(self.alloc, &mut self.pile, &mut self.open)?;
+        self.pile.add(Arc::try_clone(block)?)
     }
 
     /// Adds a block: to the open one, if both are not too many units for one; else it is shared.
@@ -142,52 +154,46 @@ impl Writer {
         }
     }
 
-    /// The blocks of what is written.
-    pub fn finish(self) -> Result<Vec<Arc<Block>>, NoMemory>
-        ensures { IfOk result (λ blocks. all_cells blocks.items ≡ self) }
+    /// Adds the blocks of a group.
+    fn copy_group(&mut self, group: &Group) -> Result<(), NoMemory>
+        requires { length self.old + length group.now < 2 ^ 32 }
+        ensures { OnOk result (self.new ≡ self.old ++ group.now) }
     {
-        let mut blocks = self.blocks;
-        let mut open = self.open;
-        close(self.alloc, &mut blocks, &mut open)?;
-        Ok(blocks)
-    }
-}
-
-#[cfg(test)]
-mod tests {
-    use super::*;
-    use crate::moving::keep;
-    use crate::reading::Reading;
-    use crate::within::Within;
-    use std::test::Fail;
-
-    /// How many units each block has, and how many lists have it.
-    fn shares(alloc: Global, blocks: &[Arc<Block>]) -> Result<Vec<(u32, usize)>, NoMemory> {
-        let mut shares = Vec::new(alloc);
-        for block in blocks {
-            shares.push((block.seen().units, Arc::strong_count(block)))?;
+        for block in group.blocks() {
+            self.push_block(block)?;
         }
-        Ok(shares)
+        Ok(())
     }
 
-    #[test]
-    fn blocks_are_shared(rt: HostRuntime) -> Result<(), Fail> {
-        let alloc = rt.alloc();
-        let bare = AttrMap::none(alloc);
-        let mut out = Writer::with_room(alloc, 4)?;
-        out.push(&[97; 3000], &bare, Seam::Joined)?;
-        let blocks = out.finish()?;
-        let mut rest = Reading {
-            here: Within::nothing(),
-            blocks: &blocks,
-        };
-        let mut out = Writer::with_room(alloc, 4)?;
-        keep(alloc, &mut out, &mut rest, 1000, &bare)?;
-        out.push(&[98], &bare, Seam::Joined)?;
-        keep(alloc, &mut out, &mut rest, 2000, &bare)?;
-        let edited = out.finish()?;
-        let shares = shares(alloc, &edited)?;
-        assert!(rt; shares.as_slice() == [(768, 2), (769, 1), (768, 2), (696, 2)].as_slice());
-        Ok(())
+    /// Adds a group that the document shares.
+    fn share_group(&mut self, group: &Arc<Group>) -> Result<(), NoMemory>
+        requires { length self.old < 2 ^ 32 }
+        ensures { OnOk result (self.new ≡ self.old ++ arc_value group.now) }
+    {
+        close(self.alloc, &mut self.pile, &mut self.open)?;
+        self.pile.share(group)
+    }
+
+    /// Adds a group: its blocks to those before it, if they are not too many for one; else it is shared.
+    pub fn push_group(&mut self, group: &Arc<Group>) -> Result<(), NoMemory>
+        requires { length self.old + length (arc_value group.now) < 2 ^ 32 }
+        ensures { OnOk result (self.new ≡ self.old ++ arc_value group.now) }
+    {
+        if self.pile.has_room(group.blocks().len()) {
+            self.copy_group(group)
+        } else {
+            self.share_group(group)
+        }
+    }
+
+    /// What is written, in groups.
+    pub fn finish(self) -> Result<Vec<Arc<Group>>, NoMemory>
+        requires { length self < 2 ^ 32 }
+        ensures { IfOk result (λ groups. all_cells groups.items ≡ self) }
+    {
+        let mut pile = self.pile;
+        let mut open = self.open;
+        close(self.alloc, &mut pile, &mut open)?;
+        pile.finish()
     }
 }

@@ -34,13 +34,24 @@ keep-requires-clause-short c =
     let w = walk_of c.args.change.now c.args.doc.now c.ops-op-items.result.now c.as_slice-bank.result.now c.ops-op-items.ensures.normal c.requires c.ops-op-items.ensures.runs (c.as_slice-bank.ensures ∙ c.bank.ensures) in
     omega (arith, c.len.ensures, end_short c.args.change.now c.args.doc.now c.ops-op-items.result.now c.as_slice-bank.result.now c.loop-op.out c.loop-op.rest c.loop-op.op-index c.loop-op.at c.loop-op.used w c.loop-op.invariant (omega arith))
 
+pub finish-requires : goal.finish-requires
+finish-requires c =
+    let w = walk_of c.args.change.now c.args.doc.now c.ops-op-items.result.now c.as_slice-bank.result.now c.ops-op-items.ensures.normal c.requires c.ops-op-items.ensures.runs (c.as_slice-bank.ensures ∙ c.bank.ensures) in
+    let at = c.loop-op.at in
+    let out = c.loop-op.out in
+    let n : c.len.result - at ≡ length c.args.doc.now - at = ap (λ (k : ℕ). k - at) c.len.ensures in
+    let is : c.keep.new.out ≡ apply c.args.change.now.edit c.args.doc.now =
+    over_all c.args.change.now c.args.doc.now c.ops-op-items.result.now c.as_slice-bank.result.now out c.loop-op.rest c.keep.new.out c.loop-op.op-index at c.loop-op.used w c.loop-op.invariant (omega arith)
+    (c.in_ok-keep.ensures.done ∙ (λ i. out ++ map (λ d. dressed d (c.none-as_it_is.ensures i)) (take (n i) (c.loop-op.invariant.rest_is i))) ∙ ap (λ cs. out ++ map (λ d. dressed d none) cs) (take_rest c.args.doc.now at)) in
+    omega (arith, ap length is, w.short)
+
 pub returns : goal.returns
 returns c =
     let w = walk_of c.args.change.now c.args.doc.now c.ops-op-items.result.now c.as_slice-bank.result.now c.ops-op-items.ensures.normal c.requires c.ops-op-items.ensures.runs (c.as_slice-bank.ensures ∙ c.bank.ensures) in
     let at = c.loop-op.at in
     let out = c.loop-op.out in
     let n : c.len.result - at ≡ length c.args.doc.now - at = ap (λ (k : ℕ). k - at) c.len.ensures in
-    c.in_ok-blocks.ensures ∙ over_all c.args.change.now c.args.doc.now c.ops-op-items.result.now c.as_slice-bank.result.now out c.loop-op.rest c.keep.new.out c.loop-op.op-index at c.loop-op.used w c.loop-op.invariant (omega arith)
+    c.in_ok-groups.ensures ∙ over_all c.args.change.now c.args.doc.now c.ops-op-items.result.now c.as_slice-bank.result.now out c.loop-op.rest c.keep.new.out c.loop-op.op-index at c.loop-op.used w c.loop-op.invariant (omega arith)
     (c.in_ok-keep.ensures.done ∙ (λ i. out ++ map (λ d. dressed d (c.none-as_it_is.ensures i)) (take (n i) (c.loop-op.invariant.rest_is i))) ∙ ap (λ cs. out ++ map (λ d. dressed d none) cs) (take_rest c.args.doc.now at))
 
 pub invariant_of-result : goal.invariant_of-result
@@ -49,8 +60,8 @@ invariant_of-result c =
     let at = c.loop-op.at in
     let out = c.loop-op.out in
     let n : c.len.result - at ≡ length c.args.doc.now - at = ap (λ (k : ℕ). k - at) c.len.ensures in
-    let is : all_cells c.in_ok-blocks.blocks.items ≡ apply c.args.change.now.edit c.args.doc.now =
-    c.in_ok-blocks.ensures ∙ over_all c.args.change.now c.args.doc.now c.ops-op-items.result.now c.as_slice-bank.result.now out c.loop-op.rest c.keep.new.out c.loop-op.op-index at c.loop-op.used w c.loop-op.invariant (omega arith)
+    let is : all_cells c.in_ok-groups.groups.items ≡ apply c.args.change.now.edit c.args.doc.now =
+    c.in_ok-groups.ensures ∙ over_all c.args.change.now c.args.doc.now c.ops-op-items.result.now c.as_slice-bank.result.now out c.loop-op.rest c.keep.new.out c.loop-op.op-index at c.loop-op.used w c.loop-op.invariant (omega arith)
     (c.in_ok-keep.ensures.done ∙ (λ i. out ++ map (λ d. dressed d (c.none-as_it_is.ensures i)) (take (n i) (c.loop-op.invariant.rest_is i))) ∙ ap (λ cs. out ++ map (λ d. dressed d none) cs) (take_rest c.args.doc.now at)) in
     record {
       document = document_is (apply c.args.change.now.edit c.args.doc.now) _ (document_made c.args.change.now c.args.doc.now c.ops-op-items.ensures.normal c.requires c.reading-rest.ensures.document) is;

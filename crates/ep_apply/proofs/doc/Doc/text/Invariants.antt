@@ -1,7 +1,9 @@
-use Rattle.std.proofs.Common.{◌≡◌, take}
+use Rattle.std.proofs.Common.{◌≡◌, ◌++◌, length}
 use Rattle.ep_cs.specs.Doc.{text_of}
-use Rattle.ep_apply.specs.Blocks.{all_cells}
 use Rattle.ep_apply.proofs.doc.Doc.text.Given as goal
 
-abbrev pub invariant-loop-block : goal.invariant-loop-block
-invariant-loop-block l = l.text ≡ text_of (all_cells (take l.block-index l.block-items))
+abbrev pub invariant-all : goal.invariant-all
+invariant-all l = l.text ++ text_of l.rest ≡ text_of l.self
+
+abbrev pub decreases-all : goal.decreases-all
+decreases-all l = length l.rest

@@ -1,0 +1,10 @@
+//! Attributed text in stretches of one map each.
+#![tactic(auto)]
+
+mod parts;
+mod span;
+mod within;
+
+pub use parts::Parts;
+pub use span::Seam;
+pub use within::{Stretch, Within};
