@@ -1,0 +1,5 @@
+pub mod Texts
+pub mod Pairs
+pub mod Adding
+pub mod Distinct
+pub mod Again

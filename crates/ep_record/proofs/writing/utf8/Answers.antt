@@ -1,0 +1,18 @@
+use Rattle.std.proofs.Common.{ap, arith, Err}
+use Rattle.ep_record.proofs.writing.utf8.Goals as goal
+
+pub returns-else-len-clause-is : goal.returns-else-len-clause-is
+returns-else-len-clause-is c =
+    record {
+      units = λ i. rw (← c.as_slice-units.ensures) (c.have_16_bits.ensures i);
+      whole = (c.well_formed_has_no_lone_half.ensures c.args.us.now).1 c.in-Ok.ensures.whole;
+      few = rw (← c.in-Ok.ensures.text) (omega (arith, c.if-len.false, c.len.ensures));
+    }
+
+pub returns-in-Err-LonePair-clause-none : goal.returns-in-Err-LonePair-clause-none
+returns-in-Err-LonePair-clause-none c =
+    λ e is.
+    let at = c.in-Err-LonePair.field-0-0 in
+    let alone = (c.in-Err-LonePair.ensures.lone at).0 (ap (λ b. Err b) c.in-Err-LonePair.field-0-is) in
+    let none = (c.well_formed_has_no_lone_half.ensures c.args.us.now).0 is.whole in
+    absurd cc

@@ -1,0 +1,206 @@
+//! Records written as bytes.
+
+ghost use Rattle.std.specs.Prelude.{◌≡◌, ◌<◌, ◌^◌, ℕ, slice_index, ◌++◌, ◌∷◌, [], true, take, length, IfOk, OnOk, IsErrOf};
+ghost use Rattle.std.specs.List.{flat_map, AllByRecursion};
+ghost use Rattle.std.specs.String.{string_bytes};
+ghost use Rattle.ep_units.specs.Text.{is_well_formed};
+ghost use Rattle.ep_units.specs.Clean.{clean};
+ghost use Rattle.ep_units.specs.Utf8.{utf8_of};
+ghost use Rattle.ep_pool.specs.Pool.{pair_of};
+ghost use Rattle.ep_record.specs.Bytes.{bytes_of, change, count, counted, flag, number, pair, pool, session, text, IsChange, IsEncoding, IsNumber, IsPair, IsPool, IsRecord, IsSession, IsText};
+ghost use Rattle.ep_record.specs.Writing.{Adds};
+
+use crate::fault::Fault;
+use ep_attr::Attr;
+use ep_cs::Change;
+use ep_csread::for_wire;
+use ep_history::Record;
+use ep_pool::Pool;
+use ep_units::{NoMemory, Session, TextBad, Units, well_formed_has_no_lone_half};
+use std::alloc::Global;
+
+#[tactic(auto, unfolding(crate::specs::Bytes::number))]
+fn put_number(n: u64, out: &mut Vec<u8>) -> Result<(), Fault>
+    ensures { Adds result out.old.items out.new.items (number n) (IsNumber n) }
+{
+    out.extend_from_slice(&n.to_be_bytes())?;
+    Ok(())
+}
+
+#[tactic(auto, unfolding(crate::specs::Bytes::count))]
+fn put_count(n: u32, out: &mut Vec<u8>) -> Result<(), Fault>
+    ensures { Adds result out.old.items out.new.items (count n) (n < 2 ^ 32) }
+{
+    out.extend_from_slice(&n.to_be_bytes())?;
+    Ok(())
+}
+
+#[tactic(auto, unfolding(crate::specs::Bytes::session))]
+fn put_session(by: Session, out: &mut Vec<u8>) -> Result<(), Fault>
+    ensures { Adds result out.old.items out.new.items (session by) (IsSession by) }
+{
+    put_number(by.epoch, out)?;
+    put_number(by.count, out)
+}
+
+fn put_flag(on: bool, out: &mut Vec<u8>) -> Result<(), Fault>
+    ensures { Adds result out.old.items out.new.items (flag on) (Unit {0}) }
+{
+    out.push(if on { 1 } else { 0 })?;
+    Ok(())
+}
+
+fn have_16_bits(units: &[u16])
+    ensures { (i : ℕ) → slice_index units.now i < 2 ^ 16 }
+{}
+
+/// The bytes of a text, where it has some and they are few enough to be counted.
+fn utf8(alloc: Global, us: &Units) -> Result<String, Fault>
+    ensures bytes { IfOk result (λ s. string_bytes s ≡ utf8_of us.now) }
+    ensures is { OnOk result (IsText us.now) }
+    ensures none { IsErrOf result (Fault.NoRecord) → IsText us.now → ⊥ }
+{
+    well_formed_has_no_lone_half();
+    let units = us.as_slice();
+    have_16_bits(units);
+    match us.to_text(alloc) {
+        Ok(bytes) => {
+            if bytes.len() > u32::MAX as usize {
+                return Err(Fault::NoRecord);
+            }
+            Ok(bytes)
+        }
+        Err(TextBad::LonePair(_)) => Err(Fault::NoRecord),
+        Err(TextBad::NoMemory) => Err(Fault::Memory),
+    }
+}
+
+#[tactic(auto, unfolding(crate::specs::Bytes::text))]
+fn put_text(alloc: Global, us: &Units, out: &mut Vec<u8>) -> Result<(), Fault>
+    ensures { Adds result out.old.items out.new.items (text us.now) (IsText us.now) }
+{
+    let bytes = utf8(alloc, us)?;
+    put_count(bytes.len() as u32, out)?;
+    out.extend_from_slice(bytes.as_bytes())?;
+    Ok(())
+}
+
+#[tactic(auto, unfolding(crate::specs::Bytes::pair))]
+fn put_pair(alloc: Global, attr: &Attr, out: &mut Vec<u8>) -> Result<(), Fault>
+    ensures { Adds result out.old.items out.new.items (pair (pair_of attr.now)) (IsPair (pair_of attr.now)) }
+{
+    put_text(alloc, &attr.key, out)?;
+    put_text(alloc, &attr.value, out)
+}
+
+fn put_pairs(alloc: Global, pairs: &Pool, out: &mut Vec<u8>) -> Result<(), Fault>
+    ensures { Adds result out.old.items out.new.items (flat_map pair pairs.now.pairs) (AllByRecursion IsPair pairs.now.pairs) }
+{
+    for n in 0..pairs.len() {
+        if let Some(attr) = pairs.get(n) {
+            put_pair(alloc, attr, out)?;
+        }
+    }
+    Ok(())
+}
+
+#[tactic(auto, unfolding(crate::specs::Bytes::pool))]
+fn put_pool(alloc: Global, pairs: &Pool, out: &mut Vec<u8>) -> Result<(), Fault>
+    ensures { Adds result out.old.items out.new.items (pool pairs.now.pairs) (IsPool pairs.now.pairs) }
+{
+    put_count(pairs.len(), out)?;
+    put_pairs(alloc, pairs, out)
+}
+
+#[tactic(auto, unfolding(crate::specs::Bytes::change))]
+fn put_change(alloc: Global, done: &Change, out: &mut Vec<u8>) -> Result<(), Fault>
+    ensures { Adds result out.old.items out.new.items (change done.now) (IsChange done.now) }
+{
+    let _runs = done.ops();
+    let wire = for_wire(alloc, done)?;
+    put_text(alloc, &wire.text, out)?;
+    put_pool(alloc, &wire.pool, out)
+}
+
+/// Whether cleaning leaves the text as it is.
+fn is_clean(alloc: Global, us: &Units) -> Result<bool, NoMemory>
+    ensures { IfOk result (λ b. (b ≡ true → clean us.now ≡ us.now) × (clean us.now ≡ us.now → b ≡ true)) }
+{
+    Ok(us.clean(alloc)? == *us)
+}
+
+fn put_cleaned(alloc: Global, us: &Units, out: &mut Vec<u8>) -> Result<(), Fault>
+    ensures { Adds result out.old.items out.new.items (text us.now) (IsText us.now × (clean us.now ≡ us.now)) }
+{
+    if !is_clean(alloc, us)? {
+        return Err(Fault::NoRecord);
+    }
+    put_text(alloc, us, out)
+}
+
+fn put(alloc: Global, entry: &Record, out: &mut Vec<u8>) -> Result<(), Fault>
+    ensures { Adds result out.old.items out.new.items (bytes_of entry.now) (IsRecord entry.now) }
+{
+    match entry {
+        Record::Open { epoch } => {
+            out.push(1)?;
+            put_number(*epoch, out)
+        }
+        Record::Create { birth, time, text } => {
+            out.push(2)?;
+            put_number(*birth, out)?;
+            put_number(*time, out)?;
+            put_cleaned(alloc, text, out)
+        }
+        Record::Rev {
+            session,
+            time,
+            author,
+            fixed,
+            change,
+        } => {
+            out.push(3)?;
+            put_session(*session, out)?;
+            put_number(*time, out)?;
+            put_text(alloc, author, out)?;
+            put_flag(*fixed, out)?;
+            put_change(alloc, change, out)
+        }
+        Record::Delete { time } => {
+            out.push(4)?;
+            put_number(*time, out)
+        }
+        Record::Public { on } => {
+            out.push(5)?;
+            put_flag(*on, out)
+        }
+        Record::Nop { session, time } => {
+            out.push(6)?;
+            put_session(*session, out)?;
+            put_number(*time, out)
+        }
+    }
+}
+
+/// The bytes of a record, where it has some.
+pub(crate) fn written(alloc: Global, entry: &Record) -> Result<Vec<u8>, Fault>
+    ensures bytes { IfOk result (λ v. IsEncoding v.items entry.now) }
+    ensures none { IsErrOf result (Fault.NoRecord) → IsRecord entry.now → ⊥ }
+{
+    let mut out = Vec::new(alloc);
+    put(alloc, entry, &mut out)?;
+    Ok(out)
+}
+
+/// The bytes of a record.
+///
+/// A record that has none is answered as for want of memory: one with half of a pair alone, with a text of 2^32
+/// bytes or more, or a Create whose text isn't cleaned.
+pub fn encode(alloc: Global, entry: &Record) -> Result<Vec<u8>, NoMemory>
+    ensures { IfOk result (λ v. IsEncoding v.items entry.now) }
+{
+    match written(alloc, entry) {
+        Ok(bytes) => Ok(bytes),
+        Err(_) => Err(NoMemory),
+    }
+}
