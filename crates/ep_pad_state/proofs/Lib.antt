@@ -1,0 +1,7 @@
+pub mod Pads
+pub mod Outcomes
+pub mod Keeping
+pub mod Lasting
+pub mod Readying
+pub mod Taking
+pub mod Telling

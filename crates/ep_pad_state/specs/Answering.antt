@@ -1,0 +1,70 @@
+-- What a call of a pad in memory comes to.
+use Rattle.std.specs.Prelude.{◌≡◌, ◌⊎◌, Result, MatchResult}
+use Rattle.ep_history.specs.Pad.{PadState}
+use Rattle.ep_history.specs.Readings.{Welcome as AWelcome, CatchUp as ACatchUp, Fetched as AFetched, Piece as APiece, PadStatus as APadStatus}
+use Rattle.ep_history.specs.Entries.{Entry, Answer, Outcome, outcome}
+use Rattle.ep_history.specs.Entries.Answer.{LoginAnswer}
+use Rattle.ep_history.specs.Entries.Outcome.{Refuses, Answers, Records}
+use Rattle.ep_history.specs.declared.pad_bad.PadBad.{PadBad}
+use Rattle.ep_history.specs.declared.pad_bad.PadBad.TheVariants.{NoMemory}
+use Rattle.ep_pad_state.specs.declared.answers.Welcome.{Welcome}
+use Rattle.ep_pad_state.specs.declared.answers.CatchUp.{CatchUp}
+use Rattle.ep_pad_state.specs.declared.answers.Fetched.{Fetched}
+use Rattle.ep_pad_state.specs.declared.answers.Piece.{Piece}
+use Rattle.ep_pad_state.specs.declared.answers.PadStatus.{PadStatus}
+use Rattle.ep_pad_state.specs.declared.change.Ready.{Ready}
+use Rattle.ep_pad_state.specs.declared.entering.LoggedIn.{LoggedIn}
+use Rattle.ep_pad_state.specs.declared.entering.LoggedIn.TheVariants.{Entered, Makes}
+use Rattle.ep_pad_state.specs.declared.pad.Pad.{Pad}
+use Rattle.ep_pad_state.specs.Held.{IsPad}
+use Rattle.ep_pad_state.specs.Making.{after, IsReady}
+
+-- ---- answers of a program, as the definitions say them
+
+abbrev pub welcome_of : Welcome → AWelcome
+welcome_of w = record { session = w.session; birth = w.birth; rev = w.rev; doc = w.doc; author = w.author; read_only = w.read_only; time = w.time }
+
+abbrev pub catch_up_of : CatchUp → ACatchUp
+catch_up_of c = record { session = c.session; head = c.head; birth = c.birth; time = c.time }
+
+abbrev pub fetched_of : Fetched → AFetched
+fetched_of f = record { head = f.head; revs = f.revs.items; nops = f.nops.items }
+
+abbrev pub piece_of : Piece → APiece
+piece_of x = record { doc = x.doc; revs = x.revs.items; head = x.head }
+
+abbrev pub status_of : PadStatus → APadStatus
+status_of s = record { birth = s.birth; head = s.head; edited = s.edited; public = s.public; live = s.live }
+
+-- ---- calls
+
+-- refused as the entry is, unless memory is wanting
+abbrev pub IsRefused : Outcome → PadBad → Type 0
+IsRefused o bad = (o ≡ Refuses bad) ⊎ (bad ≡ NoMemory)
+
+-- a reading answers what the entry comes to, of each pad that it stands for
+abbrev pub Reads : {A : Type 0} → Pad → Entry → (A → Answer) → Result A PadBad → Type 0
+Reads k e f r = (p : PadState) → IsPad k p → MatchResult r (λ x. outcome p e ≡ Answers (f x) p) (IsRefused (outcome p e))
+
+-- so does a change that isn't recorded, and then it stands for what became of that pad; refused, for the pad as it was
+abbrev pub Changes : {A : Type 0} → Pad → Entry → (A → Answer) → Result A PadBad → Pad → Type 0
+Changes k e f r new =
+    (p : PadState) → IsPad k p
+    → MatchResult r (λ x. (next : PadState) × (outcome p e ≡ Answers (f x) next) × IsPad new next) (λ bad. IsRefused (outcome p e) bad × IsPad new p)
+
+-- a change that is recorded is made ready: the record, the answer and what the pad then becomes. It stands for the same
+-- pads still.
+abbrev pub Readies : {A : Type 0} → Pad → Entry → (A → Answer) → Result (Ready A) PadBad → Pad → Type 0
+Readies k e f r new =
+    (p : PadState) → IsPad k p
+    → IsPad new p × MatchResult r (λ x. outcome p e ≡ Records x.record (f x.answer) (after x.change p)) (IsRefused (outcome p e))
+
+-- who logs in enters at once, or once the pad that is made is recorded
+abbrev pub LogsIn : PadState → Outcome → Pad → LoggedIn → Type 0
+LogsIn p o new (Entered w) = (next : PadState) × (o ≡ Answers (LoginAnswer (welcome_of w)) next) × IsPad new next
+LogsIn p o new (Makes x) = (o ≡ Records x.record (LoginAnswer (welcome_of x.answer)) (after x.change p)) × IsPad new p
+
+-- what was made ready can be made
+abbrev pub IsMade : Pad → LoggedIn → Type 0
+IsMade new (Entered w) = Unit {0}
+IsMade new (Makes x) = IsReady new x.change

@@ -1,0 +1,12 @@
+pub mod OnItsWay
+pub mod Authors
+pub mod Ending
+pub mod Uncut
+pub mod Lengths
+pub mod Stepping
+pub mod Answering
+pub mod NopOrStep
+pub mod Faults
+pub mod Leading
+pub mod Setting
+pub mod Reading
