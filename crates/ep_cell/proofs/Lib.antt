@@ -1,0 +1,4 @@
+pub mod Histories
+pub mod Keeping
+pub mod Calling
+pub mod Crossing

@@ -1,0 +1,37 @@
+//! The cell and its passes.
+
+ghost use Rattle.std.specs.Prelude.{◌≡◌, ◌≢◌, [], false};
+
+use crate::rule::Board;
+use crate::view::{Held, View};
+use atomic_table::Seat;
+use ep_outside::Machine;
+use std::sync::Mutex;
+
+/// A machine behind a lock.
+///
+/// The machine lies in the one slot of the table. Word 0 is the length of its history, word 1 the number of
+/// the next pass, and word 2 is 0 exactly while the machine is at home. The `Mutex` only queues the callers.
+#[derive(Drop)]
+pub struct Cell<M: Machine> {
+    pub(crate) turn: Mutex<()>,
+    pub(crate) board: Board<M>,
+    ghost words: { board.shared.table_id.words ≡ 3 },
+    ghost slots: { board.shared.table_id.slots ≡ 1 },
+}
+
+/// A pass of a cell round such a machine.
+pub type Pass<M> = PassOf<M, <M as Machine>::Entry, <M as Machine>::Reply>;
+
+/// What one caller has seen of a cell's history. It takes no bytes.
+#[derive(Drop)]
+pub struct PassOf<M, E, R> {
+    pub(crate) seat: Seat<Held<M, E, R>, View<E, R>>,
+    ghost empty_handed: { seat.me.1 ≡ [] },
+    ghost idle: { seat.me.0.has_machine ≡ false },
+    ghost numbered: { seat.me.0.number ≢ 0 },
+}
+
+unsafe impl<M: Machine + Send> Send for Cell<M> {}
+
+unsafe impl<M: Machine + Send> Sync for Cell<M> {}

@@ -1,0 +1,5 @@
+pub mod Finding
+pub mod Opened
+pub mod Placing
+pub mod Halls
+pub mod Crossing

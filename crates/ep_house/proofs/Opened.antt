@@ -1,0 +1,121 @@
+-- A name has one cell for good.
+use Rattle.std.proofs.Common.{◌≡◌, ℕ, ⊎_elim, Bool, true, false, List, [], ◌∷◌, ◌++◌, refl, sym, ap, ◌∙◌, subst, Option, Some, None, Result, Ok, Err}
+use Rattle.std.specs.Prelude.{bytes_eq, if◌then◌else◌}
+use Rattle.std.proofs.lemmas.List.{map-append}
+use Rattle.std.proofs.lemmas.Slice.Eq.{bytes_eq-Decides}
+use Rattle.atomic_table.specs.Seated.{TableId}
+use Rattle.ep_outside.specs.Disk.{Contents}
+use Rattle.ep_house.specs.declared.pass_bad.PassBad.{PassBad}
+use Rattle.ep_house.specs.declared.pass_bad.PassBad.TheVariants as bad
+use Rattle.ep_house.specs.Register.{Answer, Register, Step, IsOpen, Opens, Runs, Stands, IsLegal, found_in, cell_in, or_cell, told_of, all_told}
+
+abbrev or_else : Option TableId → Option TableId → Option TableId
+or_else None y = y
+or_else (Some x) y = Some x
+
+or_none : (x : Option TableId) → or_else x None ≡ x
+or_none None = refl
+or_none (Some x) = refl
+
+or_assoc : (x y z : Option TableId) → or_else (or_else x y) z ≡ or_else x (or_else y z)
+or_assoc None y z = refl
+or_assoc (Some x) y z = refl
+
+same_name : (name : List ℕ) → bytes_eq name name ≡ true
+same_name name = (bytes_eq-Decides name name).1 refl
+
+cell_added : (cs : List (List ℕ × TableId)) (m name : List ℕ) (id : TableId) → found_in (cs ++ (m, id) ∷ []) name ≡ or_else (found_in cs name) (if bytes_eq name m then Some id else None)
+cell_added [] m name id = refl
+cell_added (c ∷ cs) m name id = elim (bytes_eq name c.0) as (λ b. (if b then Some c.1 else found_in (cs ++ (m, id) ∷ []) name) ≡ or_else (if b then Some c.1 else found_in cs name) (if bytes_eq name m then Some id else None)) [
+  | true ↦ refl
+  | false ↦ cell_added cs m name id
+]
+
+module _ {B : Type 0} where
+  -- what a call's answer gives a name
+  abbrev given : List ℕ → Answer B → List ℕ → Option TableId
+  given m r name = if bytes_eq name m then or_cell r None else None
+
+  cell_on : (xs ys : List (List ℕ × Answer B)) (name : List ℕ) → cell_in (xs ++ ys) name ≡ or_else (cell_in xs name) (cell_in ys name)
+  cell_on [] ys name = refl
+  cell_on (c ∷ cs) ys name = elim (bytes_eq name c.0) as (λ b. (if b then or_cell c.1 (cell_in (cs ++ ys) name) else cell_in (cs ++ ys) name) ≡ or_else (if b then or_cell c.1 (cell_in cs name) else cell_in cs name) (cell_in ys name)) [
+    | true ↦ elim c.1 as (λ r. or_cell r (cell_in (cs ++ ys) name) ≡ or_else (or_cell r (cell_in cs name)) (cell_in ys name)) [
+      | Ok id ↦ refl
+      | Err e ↦ cell_on cs ys name
+    ]
+    | false ↦ cell_on cs ys name
+  ]
+
+  -- a cell that was found stays
+  pub cell_stays : (xs ys : List (List ℕ × Answer B)) (name : List ℕ) (id : TableId) → cell_in xs name ≡ Some id → cell_in (xs ++ ys) name ≡ Some id
+  cell_stays xs ys name id e = cell_on xs ys name ∙ ap (λ x. or_else x (cell_in ys name)) e
+
+  given_or : (m name : List ℕ) (r : Answer B) (rest : List (List ℕ × Answer B)) → or_else (given m r name) (cell_in rest name) ≡ cell_in ((m, r) ∷ rest) name
+  given_or m name (Ok id) rest = elim (bytes_eq name m) as (λ b. or_else (if b then Some id else None) (cell_in rest name) ≡ (if b then Some id else cell_in rest name)) [ true ↦ refl | false ↦ refl ]
+  given_or m name (Err e) rest = elim (bytes_eq name m) as (λ b. or_else (if b then None else None) (cell_in rest name) ≡ (if b then cell_in rest name else cell_in rest name)) [ true ↦ refl | false ↦ refl ]
+
+module _ {H D B : Type 0} (failed : H → ℕ) (told : H → List ℕ → Option Contents) (disk_failed : D → ℕ) (disk_told : D → Option Contents) (refuses : D → D → B → Type 0) where
+  abbrev Steps : Register H D → List ℕ → Answer B → Register H D → Type 0
+  Steps = Step failed told disk_failed disk_told refuses
+
+  abbrev Goes : Register H D → List (List ℕ × Answer B) → Register H D → Type 0
+  Goes = Runs failed told disk_failed disk_told refuses
+
+  pub runs_on : (first mid last : Register H D) (h g : List (List ℕ × Answer B)) → Goes first h mid → Goes mid g last → Goes first (h ++ g) last
+  runs_on first mid last [] g r q = subst (λ (n : Register H D). Goes n g last) (sym r) q
+  runs_on first mid last (c ∷ cs) g r q = (r.0, r.1, runs_on r.0 mid last cs g r.2 q)
+
+  -- after a call, each name has the cell that it had, or the one that the call gave it
+  step_gives : (s t : Register H D) (m name : List ℕ) (r : Answer B) → Steps s m r t → found_in t.cells name ≡ or_else (found_in s.cells name) (given m r name)
+  step_gives s t m name (Ok id) p = ⊎_elim
+      (λ (old : IsOpen failed told disk_failed disk_told refuses s m id t). ap (λ (d : Register H D). found_in d.cells name) old.1 ∙ kept old.0 (bytes_eq name m) refl)
+      (λ (new : Opens failed told disk_failed disk_told refuses s m id t). ap (λ l. found_in l name) new.cells ∙ cell_added s.cells m name id)
+      p
+    where
+      kept : found_in s.cells m ≡ Some id → (b : Bool) → bytes_eq name m ≡ b → found_in s.cells name ≡ or_else (found_in s.cells name) (if b then Some id else None)
+      kept found true e =
+          let same : name ≡ m = (bytes_eq-Decides name m).0 e in
+          let here : found_in s.cells name ≡ Some id = ap (found_in s.cells) same ∙ found in
+          here ∙ sym (ap (λ x. or_else x (Some id)) here)
+      kept found false e = sym (or_none (found_in s.cells name))
+  step_gives s t m name (Err e) p = ap (λ l. found_in l name) (shut e p) ∙ (sym (or_none (found_in s.cells name)) ∙ ap (or_else (found_in s.cells name)) (sym (nothing (bytes_eq name m)))) where
+    shut : (e : PassBad B) → Steps s m (Err e) t → t.cells ≡ s.cells
+    shut (bad.Pads n) p = ap (λ (d : Register H D). d.cells) p.0
+    shut (bad.Shelf n) p = p.cells
+    shut (bad.Pad b) p = p.cells
+    shut bad.NoMemory p = p.cells
+
+    nothing : (b : Bool) → ◌≡◌ {A = Option TableId} (if b then None else None) None
+    nothing true = refl
+    nothing false = refl
+
+  runs_give : (s t : Register H D) (h : List (List ℕ × Answer B)) (name : List ℕ) → Goes s h t → found_in t.cells name ≡ or_else (found_in s.cells name) (cell_in h name)
+  runs_give s t [] name r = ap (λ (d : Register H D). found_in d.cells name) (sym r) ∙ sym (or_none (found_in s.cells name))
+  runs_give s t (c ∷ cs) name r =
+      runs_give r.0 t cs name r.2 ∙ (ap (λ x. or_else x (cell_in cs name)) (step_gives s r.0 c.0 name c.1 r.1)
+      ∙ (or_assoc (found_in s.cells name) (given c.0 c.1 name) (cell_in cs name) ∙ ap (or_else (found_in s.cells name)) (given_or c.0 name c.1 cs)))
+
+  step_opens : (s t : Register H D) (name : List ℕ) (id : TableId) → Steps s name (Ok id) t → found_in t.cells name ≡ Some id
+  step_opens s t name id p = ⊎_elim
+      (λ (old : IsOpen failed told disk_failed disk_told refuses s name id t). ap (λ (d : Register H D). found_in d.cells name) old.1 ∙ old.0)
+      (λ (new : Opens failed told disk_failed disk_told refuses s name id t). ap (λ l. found_in l name) new.cells ∙ (cell_added s.cells name name id
+      ∙ (ap (λ x. or_else x (if bytes_eq name name then Some id else None)) new.may.shut ∙ ap (λ b. if b then Some id else None) (same_name name))))
+      p
+
+  last_opens : (s t : Register H D) (h : List (List ℕ × Answer B)) (name : List ℕ) (id : TableId) → Goes s (h ++ (name, Ok id) ∷ []) t → found_in t.cells name ≡ Some id
+  last_opens s t [] name id r = ap (λ (d : Register H D). found_in d.cells name) (sym r.2) ∙ step_opens s r.0 name id r.1
+  last_opens s t (c ∷ cs) name id r = last_opens r.0 t cs name id r.2
+
+  -- a name that was answered a cell was answered that one at first
+  pub one_cell : (h : List (List ℕ × Answer B)) (name : List ℕ) (id : TableId) → IsLegal failed told disk_failed disk_told refuses (h ++ (name, Ok id) ∷ []) → cell_in (h ++ (name, Ok id) ∷ []) name ≡ Some id
+  one_cell h name id l =
+      sym (runs_give l.1.0 l.0 (h ++ (name, Ok id) ∷ []) name l.1.2 ∙ ap (λ cs. or_else (found_in cs name) (cell_in (h ++ (name, Ok id) ∷ []) name)) l.1.1) ∙ last_opens l.1.0 l.0 h name id l.1.2
+
+  pub stands_on : {C : Type 0} (id : C → TableId) (last now : Register H D) (name : List ℕ) (r : Result C (PassBad B)) → Steps last name (told_of id r) now
+      → (h : List (List ℕ × Result C (PassBad B))) → Stands failed told disk_failed disk_told refuses last (all_told id h) → Stands failed told disk_failed disk_told refuses now (all_told id (h ++ (name, r) ∷ []))
+  stands_on id last now name r p h s = (
+    s.0,
+    s.1,
+    subst (λ l. Goes s.0 l now) (sym (map-append (λ c. (c.0, told_of id c.1)) h ((name, r) ∷ [])))
+        (runs_on s.0 last now (all_told id h) ((name, told_of id r) ∷ []) s.2 (now, p, refl)),
+  )

@@ -1,0 +1,66 @@
+-- What is opened gets its place, or waits.
+use Rattle.std.proofs.Common.{◌≡◌, ℕ, ◌≤◌, inr, List, [], ◌∷◌, ◌++◌, sym, ap, ◌∙◌, subst, Option, Ok, Err}
+use Rattle.atomic_table.specs.Seated.{TableId}
+use Rattle.ep_outside.specs.Disk.{Contents}
+use Rattle.ep_house.specs.declared.pass_bad.PassBad.TheVariants as bad
+use Rattle.ep_house.specs.Register.{Answer, Comes, Keeps, MayOpen, Places, Refuses, Register, Step, Waits, found_in, in_cell, on_disk, without}
+
+-- a disk that was opened may have any cell
+pub anywhere : {H D B : Type 0} (s t : Register H D) (name : List ℕ) (c : TableId) (d : D) (a : Answer B) → Places s name (in_cell c) a t → Places s name (on_disk d) a t
+anywhere s t name c d (Ok id) p = (p.0, p.1, p.2, p.3, tt)
+anywhere s t name c d (Err (bad.Pads n)) p = p
+anywhere s t name c d (Err (bad.Shelf n)) p = p
+anywhere s t name c d (Err (bad.Pad b)) p = p
+anywhere s t name c d (Err bad.NoMemory) p = p
+
+module _ {H D B : Type 0} (failed : H → ℕ) (told : H → List ℕ → Option Contents) (disk_failed : D → ℕ) (disk_told : D → Option Contents) (refuses : D → D → B → Type 0) where
+  keeps_on : (s r t : Register H D) (name : List ℕ) → Keeps failed told s r name → t.limit ≡ r.limit → t.shelf ≡ r.shelf → Keeps failed told s t name
+  keeps_on s r t name k limit shelf = record {
+    limit = limit ∙ k.limit;
+    later = subst (λ (h : H). failed s.shelf ≤ failed h) (sym shelf) k.later;
+    others = λ other differs. ap (λ (h : H). told h other) shelf ∙ k.others other differs;
+  }
+
+  step_here : (s r t : Register H D) (name : List ℕ) (w : Waits D) (a : Answer B) → MayOpen s name → Keeps failed told s r name → r.cells ≡ s.cells → r.waiting ≡ without s.waiting name
+      → Comes told disk_failed disk_told (found_in s.waiting name) s.shelf name w → Places r name w a t → Step failed told disk_failed disk_told refuses s name a t
+  step_here s r t name w (Ok id) may keeps cells taken comes p = inr (record {
+    may = may;
+    keeps = keeps_on s r t name keeps p.0 p.1;
+    of = w;
+    comes = comes;
+    same = p.4;
+    cells = p.2 ∙ ap (λ l. l ++ (name, id) ∷ []) cells;
+    waiting = p.3 ∙ taken;
+  })
+  step_here s r t name w (Err (bad.Pads n)) may keeps cells taken comes p = absurd p
+  step_here s r t name w (Err (bad.Shelf n)) may keeps cells taken comes p = absurd p
+  step_here s r t name w (Err (bad.Pad b)) may keeps cells taken comes p = absurd p
+  step_here s r t name w (Err bad.NoMemory) may keeps cells taken comes p = record {
+    room = λ shut. may.room;
+    keeps = keeps_on s r t name keeps p.0 p.1;
+    cells = p.2 ∙ cells;
+    waiting = inr (p.3.0, p.3.1 ∙ ap (λ l. l ++ (name, p.3.0) ∷ []) taken);
+  }
+
+  -- what came for a name was opened, and got its place
+  pub step_with : (s s' r t : Register H D) (name : List ℕ) (w : Waits D) (a : Answer B) → s' ≡ s → MayOpen s name → Keeps failed told s' r name → r.cells ≡ s'.cells → r.waiting ≡ without s'.waiting name
+      → Comes told disk_failed disk_told (found_in s'.waiting name) s'.shelf name w → Places r name w a t → Step failed told disk_failed disk_told refuses s name a t
+  step_with s s' r t name w a same may keeps cells taken comes p =
+      subst (λ (x : Register H D). Step failed told disk_failed disk_told refuses x name a t) same
+      (step_here s' r t name w a (subst (λ (x : Register H D). MayOpen x name) (sym same) may) keeps cells taken comes p)
+
+  -- the disk that came for a name was refused, and waits
+  pub refused_with : (s s' r t : Register H D) (name : List ℕ) (d e : D) (why : B) → s' ≡ s → MayOpen s name → Keeps failed told s' r name → r.cells ≡ s'.cells → r.waiting ≡ without s'.waiting name
+      → Comes told disk_failed disk_told (found_in s'.waiting name) s'.shelf name (on_disk d) → refuses d e why → t.limit ≡ r.limit → t.shelf ≡ r.shelf → t.cells ≡ r.cells → t.waiting ≡ r.waiting ++ (name, on_disk e) ∷ []
+      → Refuses failed told disk_failed disk_told refuses s name why t
+  refused_with s s' r t name d e why same may keeps cells taken comes cause limit shelf cells' waiting =
+      subst (λ (x : Register H D). Refuses failed told disk_failed disk_told refuses x name why t) same (record {
+        may = subst (λ (x : Register H D). MayOpen x name) (sym same) may;
+        keeps = keeps_on s' r t name keeps limit shelf;
+        disk = d;
+        comes = comes;
+        back = e;
+        cause = cause;
+        cells = cells' ∙ cells;
+        waiting = waiting ∙ ap (λ l. l ++ (name, on_disk e) ∷ []) taken;
+      })

@@ -1,0 +1,5 @@
+pub mod Register
+pub mod Named
+pub mod Registry
+pub mod Told
+pub mod Pads

@@ -1,0 +1,55 @@
+-- What contracts see of the pads of a house, of halls and of passes of pads.
+use Rattle.std.specs.Prelude.{ℕ, ◌≡◌, ◌⊎◌, ◌<◌, List, [], ◌∷◌, ◌++◌, length, Err}
+use Rattle.atomic_table.specs.Seated.{TableId}
+use Rattle.ep_outside.specs.declared.limits.Limits.{Limits}
+use Rattle.ep_cell.specs.History.{Extends, call, calls_by, pairs}
+use Rattle.ep_cell.specs.Passes.{Known, id_of, home_of, number, seen, floor}
+use Rattle.ep_cell.specs.Passes as cell
+use Rattle.ep_house.specs.declared.pass_bad.PassBad.TheVariants as bad
+use Rattle.ep_house.specs.declared.pads.Pads.{Pads}
+use Rattle.ep_house.specs.declared.pads.Hall.{Hall}
+use Rattle.ep_house.specs.declared.pads.PadPass.{PadPass}
+use Rattle.ep_house.specs.Register.{Answer}
+use Rattle.ep_house.specs.Told.{told_log}
+use Rattle.ep_house.specs.Named.{shared_id}
+
+-- A hall's call: what it has seen goes on and ends with this name and its answer, which is the one more of its own, and is legal
+pub record Notes {B : Type 0} (Legal : List (List ℕ × Answer B) → Type 0) (v : Known (List ℕ) (Answer B)) (name : List ℕ) (r : Answer B) (w : Known (List ℕ) (Answer B)) : Type 0 where
+  pub extends : Extends v.seen (call v.number name r) w.seen
+  pub own : calls_by v.number w.seen ≡ calls_by v.number v.seen ++ call v.number name r ∷ []
+  pub behind : v.floor < length w.seen
+  pub number : w.number ≡ v.number
+  pub legal : Legal (pairs w.seen)
+
+-- or no memory was found before the call, and nothing changed
+abbrev pub NotesOrNone : {B : Type 0} → (List (List ℕ × Answer B) → Type 0) → Known (List ℕ) (Answer B) → List ℕ → Answer B → Known (List ℕ) (Answer B) → Type 0
+NotesOrNone Legal v name r w = Notes Legal v name r w ⊎ ((r ≡ Err bad.NoMemory) × (w ≡ v))
+
+module _ {H P D B E R : Type 0} {s : _} {t : _} {d : _} {e : _} {p : _} where
+  abbrev pub limits_of : Pads H P D B E R s t d e p → Limits
+  limits_of pads = pads.limits
+
+  abbrev pub IsHallOf : Pads H P D B E R s t d e p → Hall H P D B E R s t d e p → Type 0
+  IsHallOf pads hall = home_of hall.pass ≡ id_of pads.registry
+
+  abbrev pub IsPassOf : Pads H P D B E R s t d e p → PadPass H P D B E R s t d e p → Type 0
+  IsPassOf pads pass = home_of pass.second ≡ id_of pads.registry
+
+  -- what a hall knows: its number, the names that were asked for with their answers, and how many there are at least
+  abbrev pub hall_known : Hall H P D B E R s t d e p → Known (List ℕ) (Answer B)
+  hall_known hall = record { number = number hall.pass; seen = told_log shared_id (seen hall.pass); floor = floor hall.pass }
+
+  abbrev pub name_of : PadPass H P D B E R s t d e p → List ℕ
+  name_of pass = pass.name
+
+  -- the cell that a pass is of
+  abbrev pub cell_of : PadPass H P D B E R s t d e p → TableId
+  cell_of pass = shared_id pass.cell
+
+  -- what a pass knows of its pad
+  abbrev pub known : PadPass H P D B E R s t d e p → Known E R
+  known pass = cell.known pass.pass
+
+  -- a pass of the same pad, in the same house
+  abbrev pub IsSamePad : PadPass H P D B E R s t d e p → PadPass H P D B E R s t d e p → Type 0
+  IsSamePad v w = (name_of w ≡ name_of v) × (cell_of w ≡ cell_of v) × (home_of w.second ≡ home_of v.second)

@@ -1,0 +1,13 @@
+-- A history of the registry, told by the ids of cells.
+use Rattle.std.specs.Prelude.{ℕ, List, map, Result}
+use Rattle.atomic_table.specs.Seated.{TableId}
+use Rattle.ep_cell.specs.declared.view.Call.{Call}
+use Rattle.ep_house.specs.declared.pass_bad.PassBad.{PassBad}
+use Rattle.ep_house.specs.Register.{Answer, told_of}
+
+module _ {C B : Type 0} (id : C → TableId) where
+  abbrev pub told_call : Call (List ℕ) (Result C (PassBad B)) → Call (List ℕ) (Answer B)
+  told_call c = record { by = c.by; entry = c.entry; reply = told_of id c.reply }
+
+  abbrev pub told_log : List (Call (List ℕ) (Result C (PassBad B))) → List (Call (List ℕ) (Answer B))
+  told_log log = map told_call log

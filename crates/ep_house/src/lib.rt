@@ -1,0 +1,26 @@
+//! The pads of a server: one cell for each pad, which is opened at its first pass and stays open.
+//!
+//! `Registry` is a machine that answers a name with the name's one cell, and it stands in a cell of its own.
+//! The crates above may rest on what each pass of a pad has seen, and on what a hall has seen of the names
+//! that were asked for: which cell each name has, and why a name was refused one. It is over any machine that
+//! opens on a disk (`PadOver`), and is not for what a pad does.
+#![tactic(auto)]
+
+#[cfg(test)]
+mod held;
+mod named;
+mod pad_over;
+mod pads;
+mod pass_bad;
+mod passing;
+mod registry;
+#[cfg(test)]
+mod tests;
+#[cfg(test)]
+mod toy;
+
+pub use named::{Kept, Named, Waiting};
+pub use pad_over::PadOver;
+pub use pads::{Hall, PadPass, Pads};
+pub use pass_bad::PassBad;
+pub use registry::{Found, Registry};

@@ -1,0 +1,192 @@
+//! The registry of open pads: a machine that answers a name with its cell.
+
+ghost use Rattle.std.specs.Prelude.{◌≡◌, ◌≢◌, ◌≤◌, ◌<◌, ◌∷◌, [], ◌++◌, List, ℕ, IfOk, IfErr, OnOk, OnErr, Err, vec_len, vec_capacity};
+
+use crate::named::{Kept, Named, Waiting, find, take_kept};
+use crate::pad_over::PadOver;
+use crate::pass_bad::PassBad;
+use ep_cell::Cell;
+use ep_outside::{Limits, Machine, Refused, Shelf, ShelfBad};
+use ep_units::PadId;
+use std::alloc::Global;
+use std::sync::Arc;
+
+/// The registry. A pad that is open stays open.
+#[derive(Drop)]
+pub struct Registry<H: Shelf, P: PadOver<H::D>> {
+    alloc: Global,
+    shelf: H,
+    limits: Limits,
+    cells: Vec<Named<P>>,
+    kept: Vec<Kept<Waiting<H::D, P>>>,
+    ghost within: { vec_len cells ≤ limits.pads },
+}
+
+/// A cell that is shared, or why none.
+pub type Found<P, B> = Result<Arc<Cell<P>, Global>, PassBad<B>>;
+
+impl<H: Shelf, P: PadOver<H::D>> Registry<H, P> {
+    ghost use Rattle.ep_cell.specs.Passes.{id_of};
+    ghost use Rattle.ep_house.specs.Register.{Comes, Keeps, MayOpen, Places, Step, found_in, in_cell, on_disk, told_of, without};
+    ghost use Rattle.ep_house.specs.Named.{shared_id, wait_of};
+    ghost use Rattle.ep_house.specs.Registry.{register};
+
+    /// No pad is open.
+    pub fn new(alloc: Global, shelf: H, limits: Limits) -> Registry<H, P>
+        ensures begun { register result ≡ record { limit = limits.pads; shelf = shelf; cells = []; waiting = [] } }
+    {
+        Registry {
+            alloc,
+            shelf,
+            limits,
+            cells: Vec::new(alloc),
+            kept: Vec::new(alloc),
+        }
+    }
+
+    fn look_up(&mut self, name: PadId) -> Found<P, P::Bad>
+        ensures { Step H.failures H.told H.D.failures H.D.told P.refuses (register self.old) name (told_of shared_id result) (register self.new) }
+    {
+        if let Some(named) = find(&self.cells, &name) {
+            return match Arc::try_clone(&named.cell) {
+                Ok(cell) => Ok(cell),
+                Err(_) => Err(PassBad::NoMemory),
+            };
+        }
+        let count = self.cells.len() as u64;
+        if count >= self.limits.pads {
+            return Err(PassBad::Pads(count));
+        }
+        self.open_new(name)
+    }
+
+    // Opens a pad that isn't open.
+    fn open_new(&mut self, name: PadId) -> Found<P, P::Bad>
+        requires { MayOpen (register self.old) name }
+        ensures { Step H.failures H.told H.D.failures H.D.told P.refuses (register self.old) name (told_of shared_id result) (register self.new) }
+    {
+        if self.cells.reserve(1).is_err() {
+            return Err(PassBad::NoMemory);
+        }
+        let disk = match self.waiting(&name) {
+            Ok(Waiting::Disk(disk)) => disk,
+            Ok(Waiting::Cell(cell)) => return self.share(name, cell),
+            Ok(Waiting::Shared(cell)) => return self.place(name, cell),
+            Err(error) => return Err(error),
+        };
+        match P::open(self.alloc, disk, self.limits) {
+            Ok(pad) => self.put(name, pad),
+            Err(Refused { back, why }) => {
+                self.kept.push_reserved(Kept {
+                    name,
+                    what: Waiting::Disk(back),
+                });
+                Err(PassBad::Pad(why))
+            }
+        }
+    }
+
+    // What waits for a name that isn't open, or the shelf's disk.
+    fn waiting(&mut self, name: &PadId) -> Result<Waiting<H::D, P>, PassBad<P::Bad>>
+        ensures cells { self.new.cells ≡ self.old.cells }
+        ensures limits { self.new.limits ≡ self.old.limits }
+        ensures keeps { Keeps H.failures H.told (register self.old) (register self.new) name.now }
+        ensures comes { IfOk result (λ w. Comes H.told H.D.failures H.D.told (found_in (register self.old).waiting name.now) self.old.shelf name.now (wait_of w)) }
+        ensures taken { OnOk result ((register self.new).waiting ≡ without (register self.old).waiting name.now) }
+        ensures room { OnOk result (vec_len self.new.kept < vec_capacity self.new.kept) }
+        ensures refused { MayOpen (register self.old) name.now → IfErr result (λ e. Step H.failures H.told H.D.failures H.D.told P.refuses (register self.old) name.now (Err e) (register self.new)) }
+    {
+        if self.kept.reserve(1).is_err() {
+            return Err(PassBad::NoMemory);
+        }
+        if let Some(waiting) = take_kept(&mut self.kept, name) {
+            return Ok(waiting);
+        }
+        match self.shelf.open(name) {
+            Ok(disk) => Ok(Waiting::Disk(disk)),
+            Err(ShelfBad::Failed) => Err(PassBad::Shelf(self.shelf.faults())),
+            Err(ShelfBad::NoMemory) => Err(PassBad::NoMemory),
+        }
+    }
+
+    // A cell round a pad that was just opened. The disk of one that finds no memory waits for the next pass.
+    fn put(&mut self, name: PadId, pad: P) -> Found<P, P::Bad>
+        requires begun { P.stands pad [] }
+        requires room { (vec_len self.old.cells < vec_capacity self.old.cells) × (vec_len self.old.kept < vec_capacity self.old.kept) }
+        requires below { vec_len self.old.cells < self.old.limits.pads }
+        ensures { (disk : H.D) → Places (register self.old) name (on_disk disk) (told_of shared_id result) (register self.new) }
+    {
+        match Cell::new(self.alloc, pad) {
+            Ok(cell) => self.share(name, cell),
+            Err(refused) => {
+                let disk = refused.back.into_disk();
+                self.kept.push_reserved(Kept {
+                    name,
+                    what: Waiting::Disk(disk),
+                });
+                Err(PassBad::NoMemory)
+            }
+        }
+    }
+
+    // A cell is shared. One that finds no memory waits for the next pass.
+    fn share(&mut self, name: PadId, cell: Cell<P>) -> Found<P, P::Bad>
+        requires room { (vec_len self.old.cells < vec_capacity self.old.cells) × (vec_len self.old.kept < vec_capacity self.old.kept) }
+        requires below { vec_len self.old.cells < self.old.limits.pads }
+        ensures { Places (register self.old) name (in_cell (id_of cell)) (told_of shared_id result) (register self.new) }
+    {
+        match Arc::new(self.alloc, cell) {
+            Ok(cell) => self.place(name, cell),
+            Err(failed) => {
+                self.kept.push_reserved(Kept {
+                    name,
+                    what: Waiting::Cell(failed.value),
+                });
+                Err(PassBad::NoMemory)
+            }
+        }
+    }
+
+    // A shared cell gets its place among the open ones.
+    fn place(&mut self, name: PadId, cell: Arc<Cell<P>, Global>) -> Found<P, P::Bad>
+        requires room { (vec_len self.old.cells < vec_capacity self.old.cells) × (vec_len self.old.kept < vec_capacity self.old.kept) }
+        requires below { vec_len self.old.cells < self.old.limits.pads }
+        ensures { Places (register self.old) name (in_cell (shared_id cell)) (told_of shared_id result) (register self.new) }
+    {
+        match Arc::try_clone(&cell) {
+            Ok(theirs) => {
+                self.cells.push_reserved(Named { name, cell });
+                Ok(theirs)
+            }
+            Err(_) => {
+                self.kept.push_reserved(Kept {
+                    name,
+                    what: Waiting::Shared(cell),
+                });
+                Err(PassBad::NoMemory)
+            }
+        }
+    }
+}
+
+impl<H: Shelf, P: PadOver<H::D>> Machine for Registry<H, P> {
+    ghost use Rattle.ep_house.specs.Register.{IsLegal, Stands, all_told};
+    ghost use Rattle.ep_house.specs.Named.{shared_id};
+    ghost use Rattle.ep_house.specs.Registry.{register};
+
+    type Entry = PadId;
+
+    type Reply = Found<P, P::Bad>;
+
+    ghost allows = { λ _. Unit {0} };
+
+    ghost stands = { λ r h. Stands H.failures H.told H.D.failures H.D.told P.refuses (register r) (all_told shared_id h) };
+
+    ghost legal = { λ h. IsLegal H.failures H.told H.D.failures H.D.told P.refuses (all_told shared_id h) };
+
+    ghost stands_legal = { λ r h s. (register r, s) };
+
+    fn call(&mut self, name: PadId) -> Found<P, P::Bad> {
+        self.look_up(name)
+    }
+}
