@@ -1,0 +1,10 @@
+pub mod Units
+pub mod Joined
+pub mod Refused
+pub mod OneAnswer
+pub mod Numerals
+pub mod Ascii
+pub mod SessionTexts
+pub mod Distinct
+pub mod ServerAgain
+pub mod ClientAgain

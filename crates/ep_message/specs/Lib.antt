@@ -1,0 +1,10 @@
+pub mod Answer
+pub mod Members
+pub mod Sessions
+pub mod Pools
+pub mod Client
+pub mod Server
+pub mod Json
+pub mod ServerJson
+pub mod ClientJson
+pub mod Sent

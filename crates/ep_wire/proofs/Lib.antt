@@ -1,0 +1,10 @@
+pub mod Glue
+pub mod Commas
+pub mod Ids
+pub mod Arrays
+pub mod Rising
+pub mod Back
+pub mod Ready
+pub mod Inserted
+pub mod Named
+pub mod ReadWith

@@ -1,0 +1,4 @@
+pub mod Rows
+pub mod ServerRows
+pub mod ReadWith
+pub mod Tokens
