@@ -6,6 +6,7 @@ least that an operation needs; it is given a folder that it may write in. Both p
 second, microseconds each, note, with tabs between.
 """
 
+import os
 import subprocess
 import sys
 import tempfile
@@ -32,10 +33,12 @@ ITEMS = [
     ("follow a small edit, 1,000,000 units", "follow", 1_000_000, 500_000, ["1MB/follow"], "follow"),
     ("rebase through 1,000 revisions, 10,000 units", "rebase", 10_000, 2_000, ["rebase1000"], "rebase1000"),
     ("slide 10,000 letters by 100, 10,000 units, each letter", "slide", 10_000, 50, ["compose10000/fold"], "compose10000/fold"),
+    ("hear a revision with one unsent letter, 10,000 units", "hear", 10_000, 50, ["10KB/hear"], None),
+    ("hear a revision with one unsent letter, 1,000,000 units", "hear", 1_000_000, 5, ["1MB/hear"], None),
 ]
 
 # how many of the single operations that the others time there are in one of ours
-PARTS = {"slide": 9_999}
+PARTS = {"slide": 9_999, "hear": 1_000}
 
 
 def seconds(program, word, units, count):
@@ -64,6 +67,7 @@ def microseconds(command, runs):
 def main():
     program, peers, floor_program = sys.argv[1:4]
     theirs = microseconds(["node", f"{peers}/js-easysync/bench.js", "0.5"], 3)
+    theirs |= microseconds(["node", f"{os.path.dirname(os.path.abspath(__file__))}/hear.js", peers, "3"], 1)
     with tempfile.TemporaryDirectory() as folder:
         least = microseconds([floor_program, folder], 5)
     for name, word, units, count, items, floor in ITEMS:

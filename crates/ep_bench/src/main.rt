@@ -4,7 +4,9 @@
 mod colliding;
 mod data;
 mod draws;
+mod hearing;
 mod journal;
+mod revising;
 mod two;
 mod typing;
 mod work;
@@ -14,7 +16,7 @@ use std::env;
 use work::Work;
 
 const USAGE: &str =
-    "usage: ep_bench read|print|pool|pool-collide|fits|apply|apply-runs|compose|follow|rebase|slide UNITS COUNT";
+    "usage: ep_bench read|print|pool|pool-collide|fits|apply|apply-runs|compose|follow|rebase|slide|hear|encode|decode UNITS COUNT";
 
 fn checksum(rt: &HostRuntime) -> Result<u64> {
     let mut words = env::args(rt)?.skip(1);

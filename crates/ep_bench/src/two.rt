@@ -85,7 +85,7 @@ pub fn follow_edits(alloc: Global, units: u32, count: u32) -> Result<u64> {
 }
 
 /// Small edits that are made to a document one after another.
-fn made_since(alloc: Global, doc: &Doc, pool: &Pool, draws: &mut Draws) -> Result<Vec<Change>>
+pub fn made_since(alloc: Global, doc: &Doc, pool: &Pool, draws: &mut Draws) -> Result<Vec<Change>>
     ensures { IfOk result (λ changes. AreMade doc.now changes.items) }
 {
     let mut changes = Vec::new(alloc);

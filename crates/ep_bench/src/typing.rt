@@ -26,7 +26,7 @@ const BURST: u32 = 20;
 const STEP: u32 = 100;
 
 /// A letter at a place of a document.
-fn letter(alloc: Global, doc: &Doc, at: u32) -> Result<Change>
+pub fn letter(alloc: Global, doc: &Doc, at: u32) -> Result<Change>
     ensures { IfOk result (λ change. Fits change doc.now) }
 {
     let text = Units::from_str(alloc, "x")?;

@@ -7,6 +7,8 @@ ghost use Rattle.ep_cs.specs.Fits.{Fits};
 use crate::colliding::colliding;
 use crate::data::{AUTHORS, attribs, document, edit};
 use crate::draws::Draws;
+use crate::hearing::hear_edits;
+use crate::revising::{decode_records, encode_records};
 use crate::two::{compose_edits, follow_edits, rebase_edits};
 use crate::typing::slide_typing;
 use anyhow::{Result, anyhow};
@@ -52,6 +54,12 @@ pub enum Work {
     Rebase,
     /// Ten thousand letters are slid by a hundred.
     Slide,
+    /// A client with one unsent letter hears a thousand revisions of another.
+    Hear,
+    /// The record of a small revision is written.
+    Encode,
+    /// The record of a small revision is read.
+    Decode,
 }
 
 impl Work {
@@ -68,6 +76,9 @@ impl Work {
             "follow" => Some(Work::Follow),
             "rebase" => Some(Work::Rebase),
             "slide" => Some(Work::Slide),
+            "hear" => Some(Work::Hear),
+            "encode" => Some(Work::Encode),
+            "decode" => Some(Work::Decode),
             _ => None,
         }
     }
@@ -85,6 +96,9 @@ impl Work {
             Work::Follow => follow_edits(alloc, units, count),
             Work::Rebase => rebase_edits(alloc, units, count),
             Work::Slide => slide_typing(alloc, units, count),
+            Work::Hear => hear_edits(alloc, units, count),
+            Work::Encode => encode_records(alloc, units, count),
+            Work::Decode => decode_records(alloc, units, count),
         }
     }
 }
