@@ -8,7 +8,7 @@ ghost use Rattle.ep_message.specs.ClientJson.{client_json, joined, sessions_memb
 ghost use Rattle.ep_wire.specs.Tokens.{Fits, IsBack, fields, reconnect, resumed, said};
 ghost use Rattle.ep_message.specs.declared.client.ClientMsg.TheVariants as msg;
 
-use crate::out::Out;
+use crate::printing::Out;
 use ep_cs::Change;
 use ep_csread::for_wire;
 use ep_message::{ClientMsg, Listed, Member, Resume};

@@ -7,8 +7,8 @@
 mod client_reader;
 mod client_writer;
 mod members;
-mod out;
 mod pooled;
+mod printing;
 mod server_reader;
 mod server_writer;
 mod session;

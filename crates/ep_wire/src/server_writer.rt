@@ -9,7 +9,7 @@ ghost use Rattle.ep_message.specs.ServerJson.{attributed, pad_now, pool, server_
 ghost use Rattle.ep_wire.specs.Tokens.{IsBack, field, said};
 ghost use Rattle.ep_message.specs.declared.server.ServerMsg.TheVariants as msg;
 
-use crate::out::Out;
+use crate::printing::Out;
 use ep_apply::Doc;
 use ep_cs::Change;
 use ep_csread::{Wires, for_wire, for_wire_all, print_attribs};
