@@ -2,6 +2,8 @@ pub mod Units
 pub mod Joined
 pub mod Refused
 pub mod OneAnswer
+pub mod Commas
+pub mod Ids
 pub mod Numerals
 pub mod Ascii
 pub mod SessionTexts

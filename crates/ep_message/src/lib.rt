@@ -1,7 +1,8 @@
-//! What the messages between a browser and the server are: their values, and what each text says.
+//! What the messages between a browser and the server are: their values, their members, and what each text says.
 //!
-//! The layers above may rest on the definitions in `specs/`, which are a table of members for each message, and on the
-//! laws: no text has two answers, and what is written is read again. The calls that read and write are in `ep_wire`.
+//! The layers above may rest on the definitions in `specs/`, which are a table of members for each message, on the laws (no
+//! text has two answers, and what is written is read again), and on the exact clauses of what reads one member. The calls
+//! that read and write whole messages are in `ep_wire`.
 #![tactic(auto)]
 
 mod bad;
@@ -9,8 +10,10 @@ mod client;
 mod laws;
 mod listed;
 mod member;
+pub mod members;
 mod refusals;
 mod server;
+pub mod session;
 
 pub use bad::WireBad;
 pub use client::{ClientMsg, Resume};

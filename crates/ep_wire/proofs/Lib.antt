@@ -1,6 +1,4 @@
 pub mod Glue
-pub mod Commas
-pub mod Ids
 pub mod Arrays
 pub mod Rising
 pub mod Back

@@ -7,11 +7,11 @@ ghost use Rattle.ep_message.specs.Client.{ReadsClient, ReadsRow, Row, collab_row
 ghost use Rattle.ep_wire.specs.Rows.{edit_view, row_view};
 ghost use Rattle.ep_message.specs.Sent.{IfSmall, IfText, IsResume, IsSentByClient, IsSmall};
 
-use crate::members::{
+use crate::pooled::change;
+use ep_message::members::{
     json, member, object, optional_flag, optional_units, optional_whole, text, units, whole,
 };
-use crate::pooled::change;
-use crate::session::sessions;
+use ep_message::session::sessions;
 use ep_message::{ClientMsg, Member, Resume, WireBad};
 use ep_units::Units;
 use serde_json::Value;

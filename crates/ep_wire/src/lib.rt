@@ -6,12 +6,10 @@
 
 mod client_reader;
 mod client_writer;
-mod members;
 mod pooled;
 mod printing;
 mod server_reader;
 mod server_writer;
-mod session;
 
 pub use client_reader::read_client;
 pub use client_writer::write_client;

@@ -12,10 +12,10 @@ ghost use Rattle.ep_message.specs.Pools.{ReadsChange, ReadsDoc, ReadsSteps, all_
 ghost use Rattle.ep_message.specs.Sent.{AreSent, IsSent};
 ghost use Rattle.ep_wire.specs.ReadWith.{IsReadWith};
 
-use crate::members::units_from;
 use ep_apply::{Doc, apply};
 use ep_cs::Change;
 use ep_csread::{read, read_attribs};
+use ep_message::members::units_from;
 use ep_message::{Listed, Member, WireBad};
 use ep_pool::Pool;
 use serde_json::Value;

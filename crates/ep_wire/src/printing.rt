@@ -16,8 +16,8 @@ ghost use Rattle.ep_message.specs.Members.{name};
 ghost use Rattle.ep_message.specs.ClientJson.{if_some};
 ghost use Rattle.ep_wire.specs.Tokens.{IfFits, field, fields, said};
 
-use crate::session::session_text;
 use ep_message::Member;
+use ep_message::session::session_text;
 use ep_pool::Pool;
 use ep_units::{NoMemory, Session, Units};
 use json::{Token, Writer};

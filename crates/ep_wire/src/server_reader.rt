@@ -7,11 +7,11 @@ ghost use Rattle.ep_message.specs.Server.{ReadsRow, ReadsServer, Row, accepted_i
 ghost use Rattle.ep_message.specs.Sent.{IsSentByServer, IsSession, IsSmall};
 ghost use Rattle.ep_wire.specs.ServerRows.{back_view, news_view, row_view, slid_view, vars_view};
 
-use crate::members::{
+use crate::pooled::{change, document, steps};
+use ep_message::members::{
     array_of_texts, flag, json, member, object, optional_flag, text, units_from, whole,
 };
-use crate::pooled::{change, document, steps};
-use crate::session::session;
+use ep_message::session::session;
 use ep_message::{Member, ServerMsg, WireBad, Word};
 use ep_units::Session;
 use serde_json::Value;

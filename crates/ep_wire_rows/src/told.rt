@@ -3,6 +3,7 @@
 use ep_apply::Doc;
 use ep_cs::Change;
 use ep_csread::{for_wire, print_attribs};
+use ep_message::session::session_text;
 use ep_units::{NoMemory, Session, Units};
 use ep_wire::{ClientMsg, Listed, Resume, ServerMsg, Word};
 use serde_json::{Map, Value};
@@ -42,11 +43,7 @@ impl Told {
     }
 
     fn session(&mut self, name: &str, at: Session) -> Result<(), NoMemory> {
-        let Session { epoch, count } = at;
-        if epoch == 0 && count == 0 {
-            return self.word(name, "");
-        }
-        let text = format!(in self.alloc; "{epoch}.{count}")?;
+        let text = session_text(self.alloc, at)?;
         self.word(name, text.as_str())
     }
 

@@ -10,7 +10,8 @@ ghost use Rattle.ep_message.specs.Client.{json_in};
 ghost use Rattle.ep_message.specs.Members.{are_texts, array_of_texts, needed, object_kind, optional, units, whole};
 ghost use Rattle.ep_message.specs.Sent.{IfSmall, IfText, IsSmall};
 
-use ep_message::{Member, WireBad};
+use crate::bad::WireBad;
+use crate::member::Member;
 use ep_units::{NoMemory, Units};
 use serde_json::Value;
 use serde_json::error::Category;

@@ -10,8 +10,10 @@ ghost use Rattle.ep_message.specs.Client.{sessions_in};
 ghost use Rattle.ep_message.specs.Sent.{AreIds, IsSession};
 ghost use Rattle.ep_message.specs.Sessions.{ids_in, is_comma, number_in, session, session_in, session_text};
 
+use crate::bad::WireBad;
+use crate::listed::Listed;
+use crate::member::Member;
 use crate::members::units_from;
-use ep_message::{Listed, Member, WireBad};
 use ep_units::{NoMemory, Session, Units};
 use itoa::Buffer;
 use serde_json::Value;

@@ -1,8 +1,8 @@
 use Rattle.std.proofs.Common.{ap, sym, true≢false, ◌∙◌}
 use Rattle.std.specs.List.{slice_split}
 use Rattle.ep_message.specs.Sessions.{is_comma}
-use Rattle.ep_wire.proofs.Ids.{pieces_are}
-use Rattle.ep_wire.proofs.session.ids_in.Goals as goal
+use Rattle.ep_message.proofs.Ids.{pieces_are}
+use Rattle.ep_message.proofs.session.ids_in.Goals as goal
 
 pub returns-clause-ids : goal.returns-clause-ids
 returns-clause-ids c =

@@ -4,7 +4,7 @@ use Rattle.std.proofs.lemmas.Fmt.{parse-decimal}
 use Rattle.std.proofs.lemmas.Option.{same_Some}
 use Rattle.std.proofs.lemmas.Slice.Eq.{bytes_eq-Decides}
 use Rattle.ep_message.proofs.Numerals.{number_is, number_not}
-use Rattle.ep_wire.proofs.session.number.Goals as goal
+use Rattle.ep_message.proofs.session.number.Goals as goal
 
 pub returns-then-eq : goal.returns-then-eq
 returns-then-eq c =
