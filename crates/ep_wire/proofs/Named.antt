@@ -1,15 +1,15 @@
 -- What holds of each pair that operations name, and of each unit of their bank, holds of those of the change that they make.
-use Rattle.std.proofs.Common.{◌≡◌, ℕ, zero, suc, ◌-◌, Bool, true, false, cond, List, [], ◌∷◌, ◌++◌, fold, map, replicate, Option, Some, None, Ordering, Less, Equal, Greater, refl, sym, ap, subst}
+use Rattle.std.proofs.Common.{◌≡◌, ℕ, zero, suc, ◌-◌, Bool, true, false, cond, List, [], ◌∷◌, ◌++◌, fold, map, replicate, Option, Some, None, Ordering, Less, Equal, Greater, refl, sym, subst}
 use Rattle.std.specs.List.{AllByRecursion, flat_map}
 use Rattle.std.specs.Ordering.{eq_by_cmp}
 use Rattle.std.specs.FinMap.Entries.{by_order, find, put}
 use Rattle.ep_units.specs.Text.{Text, is_newline, text_cmp}
-use Rattle.ep_attr.specs.AttrMap.{AttrMap, Pair, none, after, checked, get, insert, insert_some, is_none, keys, map_of, value_after}
+use Rattle.ep_attr.specs.AttrMap.{AttrMap, Pair, none, after, checked, get, insert, insert_some, keys, map_of, value_after}
 use Rattle.ep_attr.proofs.Maps.{exact_test, exact_text}
 use Rattle.ep_pool.specs.Pool as pools
 use Rattle.ep_cs.specs.Change.{Change, change_of}
 use Rattle.ep_cs.specs.Doc.{Cell}
-use Rattle.ep_cs.specs.Edit.{Edit, Fate, Place, Step, edit_of, inserts, settle}
+use Rattle.ep_cs.specs.Edit.{Fate, Place, Step, edit_of, inserts, settle}
 use Rattle.ep_cs.specs.Edit.Fate.{Drop, Keep}
 use Rattle.ep_cs.specs.Edit.Step.{Insert, Pass}
 use Rattle.ep_cs.specs.Normal as normal

@@ -1,6 +1,6 @@
 -- A change that is read with a pool has pairs of the pool and a well-formed text.
-use Rattle.std.proofs.Common.{◌≡◌, ℕ, zero, suc, ◌≤◌, ◌<◌, ◌^◌, ◌||◌, Bool, true, false, cond, List, [], ◌∷◌, ◌++◌, length, map, Ok, slice_index, refl, sym, ap, ◌∙◌, subst, arith}
-use Rattle.std.specs.List.{AllByRecursion, IsDistinct, flat_map, list_any}
+use Rattle.std.proofs.Common.{◌≡◌, ℕ, suc, ◌≤◌, ◌<◌, ◌^◌, ◌||◌, Bool, true, false, List, [], ◌∷◌, ◌++◌, length, map, Ok, refl, sym, ap, ◌∙◌, subst, arith}
+use Rattle.std.specs.List.{AllByRecursion, IsDistinct, flat_map}
 use Rattle.std.proofs.lemmas.Map.Made.{length-le_from_is_member}
 use Rattle.ep_units.specs.Text.{Text, is_well_formed}
 use Rattle.ep_attr.specs.AttrMap.{Pair}
@@ -10,7 +10,7 @@ use Rattle.ep_pool.specs.Pool.{has, most_pairs, same_pair}
 use Rattle.ep_pool.specs.Read.{AreTexts, IsText}
 use Rattle.ep_pool.proofs.Found.{same_pair_equiv}
 use Rattle.ep_pool.proofs.Gathering.{same_pair_is, same_pair_itself}
-use Rattle.ep_cs.specs.Change.{Change, bank_from, bank_of, change_of}
+use Rattle.ep_cs.specs.Change.{Change, bank_from, bank_of}
 use Rattle.ep_cs.specs.Doc.{Cell, text_of}
 use Rattle.ep_cs.specs.Edit.{Place}
 use Rattle.ep_cs.specs.Fits.{AreDocuments}
@@ -23,7 +23,7 @@ use Rattle.ep_csread.proofs.Spelled.{read_spells, read_spells_text}
 use Rattle.ep_message.specs.Sent.{AreSent, IsSent}
 use Rattle.ep_wire.specs.ReadWith.{IsReadWith}
 use Rattle.ep_message.proofs.Distinct.{named_distinct}
-use Rattle.ep_wire.proofs.Named.{Of, OfCells, OfChange, OfOps, OfPlaces, change_of_of, named_of, resolved_of}
+use Rattle.ep_wire.proofs.Named.{OfCells, OfChange, OfOps, OfPlaces, change_of_of, named_of, resolved_of}
 use Rattle.ep_message.proofs.Joined.{text_appended}
 use Rattle.ep_message.proofs.Units.{IsUnit, all_units, behind_all, both, units_all}
 

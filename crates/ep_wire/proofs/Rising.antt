@@ -1,9 +1,9 @@
 -- The entries of a pool's JSON stand in the order of their names, so they are read back one after another.
-use Rattle.std.proofs.Common.{◌≡◌, ℕ, zero, suc, ◌<◌, ◌≤◌, ◌^◌, List, [], ◌∷◌, length, codes, decimal, Some, Ordering, Less, Equal, Greater, refl, sym, ap, ◌∙◌, arith}
+use Rattle.std.proofs.Common.{◌≡◌, ℕ, suc, ◌<◌, ◌≤◌, ◌^◌, List, [], ◌∷◌, length, decimal, Some, Ordering, Less, Equal, Greater, refl, ap, ◌∙◌, arith}
 use Rattle.std.specs.Ordering.{nat_cmp, match_ordering, ordering_reverse}
 use Rattle.std.specs.Cmp.Lexicographic.{nat_list_cmp_total, slice_cmp}
 use Rattle.json.specs.Tree.{depth, members_depth}
-use Rattle.serde_json.specs.Data.{Data, Members, no_members, member, number, object, put, unsigned}
+use Rattle.serde_json.specs.Data.{Data, Members, no_members, member, put}
 use Rattle.serde_json.specs.Read.{of_json, of_members}
 use Rattle.serde_json.specs.Written.{members_outline, outline}
 use Rattle.serde_json.proofs.Numbers.{number_of-decimal}

@@ -11,7 +11,7 @@ pub returns-clause-tokens : goal.returns-clause-tokens
 returns-clause-tokens c =
     let pairs = c.args.pool.now.pairs in
     let entries : members_view c.in-Some.entries.now.entries ≡ numbered no_members 0 pairs =
-        same_Some _ _ (c.in-Some.ensures ∙ ap (λ d. option_and_then as_object (get (codes "numToAttrib") d)) c.in_ok-json.ensures) in
+    same_Some _ _ (c.in-Some.ensures ∙ ap (λ d. option_and_then as_object (get (codes "numToAttrib") d)) c.in_ok-json.ensures) in
     let count : c.from.result ≡ length pairs = search rules in
     rw (c.in_ok-end.ensures, c.in_ok-entries.ensures, entries, c.in_ok-begin.ensures, c.in_ok-put-2.ensures, c.in_ok-number.ensures, count, c.in_ok-put.ensures, c.in_ok-open.ensures)
     (glue c.args.self.now (_ ∷ _ ∷ _ ∷ _ ∷ _ ∷ _ ∷ _ ∷ []))
