@@ -123,6 +123,10 @@ next-limits pad (record_of.Delete time) = refl
 next-limits pad (record_of.Public on) = refl
 next-limits pad (record_of.Nop by time) = refl
 
+pub told-limits : (pad : PadState) (rs : List Record) → (told_from pad rs).limits ≡ pad.limits
+told-limits pad [] = refl
+told-limits pad (r ∷ rs) = told-limits (next_pad pad r) rs ∙ next-limits pad r
+
 pub next-epoch : (pad : PadState) (r : Record) → pad.epoch ≤ (next_pad pad r).epoch
 next-epoch pad (record_of.Open epoch) = omega arith
 next-epoch pad (record_of.Create birth time text) = omega arith

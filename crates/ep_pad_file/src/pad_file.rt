@@ -44,9 +44,9 @@ impl<D: Disk> PadFile<D> {
         ensures crash { (c : Contents) → D.told disk ≡ Some c → MatchResult result
             (λ file. LeavesFirst D.moment D.since disk (disk_of file) (IsImage (D.told disk)) (IsMending c.seen))
             (λ refused. MayLeaveFirst D.moment D.since disk refused.back (IsImage (D.told disk)) (IsMending c.seen)) }
-        // What an append left stays so at every moment; a refusal gives it back so, and Ok has settled what it holds.
+        // What an append left stays so at every moment and after the call; Ok has settled what it holds.
         ensures left { (rs pending : List Record) → MayHold (D.told disk) rs pending → MatchResult result
-            (λ file. LeavesOnly D.moment D.since disk (disk_of file) (IsLeft rs pending))
+            (λ file. LeavesOnly D.moment D.since disk (disk_of file) (IsLeft rs pending) × MayHold (D.told (disk_of file)) rs pending)
             (λ refused. LeavesOnly D.moment D.since disk refused.back (IsLeft rs pending) × MayHold (D.told refused.back) rs pending) }
         ensures settled { (rs pending : List Record) → MayHold (D.told disk) rs pending
             → IfOk result (λ file. Holds (D.told (disk_of file)) rs ⊎ Holds (D.told (disk_of file)) (rs ++ pending)) }
@@ -83,9 +83,9 @@ impl<D: Disk> PadFile<D> {
         ensures crash { (c : Contents) → D.told (disk_of self.old) ≡ Some c → MatchResult result
             (λ _. LeavesFirst D.moment D.since (disk_of self.old) (disk_of self.new) (IsImage (D.told (disk_of self.old))) (IsMending c.seen))
             (λ _. MayLeaveFirst D.moment D.since (disk_of self.old) (disk_of self.new) (IsImage (D.told (disk_of self.old))) (IsMending c.seen)) }
-        // What an append left stays so at every moment and after an `Err`; Ok has settled what it holds.
+        // What an append left stays so at every moment and after the call; Ok has settled what it holds.
         ensures left { (rs pending : List Record) → MayHold (D.told (disk_of self.old)) rs pending
-            → LeavesOnly D.moment D.since (disk_of self.old) (disk_of self.new) (IsLeft rs pending) × OnErr result (MayHold (D.told (disk_of self.new)) rs pending) }
+            → LeavesOnly D.moment D.since (disk_of self.old) (disk_of self.new) (IsLeft rs pending) × MayHold (D.told (disk_of self.new)) rs pending }
         ensures settled { (rs pending : List Record) → MayHold (D.told (disk_of self.old)) rs pending
             → OnOk result (Holds (D.told (disk_of self.new)) rs ⊎ Holds (D.told (disk_of self.new)) (rs ++ pending)) }
 
@@ -288,9 +288,9 @@ impl<D: Crash> PadFile<D> {
             → (image : List ℕ) × IsAsked c (image_at (D.left (disk_of self.old)) (D.image (disk_of self.old))) image × MatchResult result
             (λ _. LeavesFirst D.moment D.since (disk_of self.old) (disk_of self.new) (IsImageOr (D.told (disk_of self.old)) image) (IsMending image))
             (λ _. MayLeaveFirst D.moment D.since (disk_of self.old) (disk_of self.new) (IsImageOr (D.told (disk_of self.old)) image) (IsMending image)) }
-        // What an append left stays so at every moment and after an `Err`; Ok has settled what it holds.
+        // What an append left stays so at every moment and after the call; Ok has settled what it holds.
         ensures left { (rs pending : List Record) → MayHold (D.told (disk_of self.old)) rs pending
-            → LeavesOnly D.moment D.since (disk_of self.old) (disk_of self.new) (IsLeft rs pending) × OnErr result (MayHold (D.told (disk_of self.new)) rs pending) }
+            → LeavesOnly D.moment D.since (disk_of self.old) (disk_of self.new) (IsLeft rs pending) × MayHold (D.told (disk_of self.new)) rs pending }
         ensures settled { (rs pending : List Record) → MayHold (D.told (disk_of self.old)) rs pending
             → OnOk result (Holds (D.told (disk_of self.new)) rs ⊎ Holds (D.told (disk_of self.new)) (rs ++ pending)) }
         ensures own_left { (rs pending : List Record) → MayHold (D.told (disk_of self.old)) rs pending → IfErr result (λ why. why ≡ PadBad.Foreign → ⊥) }

@@ -4,19 +4,19 @@ use Rattle.ep_history.specs.declared.pad_bad.PadBad.TheVariants.{Foreign}
 use Rattle.ep_pad_file.specs.Standing.{IsLeft}
 use Rattle.ep_pad_file.proofs.Causes.{foreign_is}
 use Rattle.ep_pad_file.proofs.Left.{left_mends, left_stands, left_native}
-use Rattle.ep_pad_file.proofs.Telling.{left_tells, image_left, asked_left, first_left, may_left, left_images, stands_again}
+use Rattle.ep_pad_file.proofs.Telling.{left_tells, image_left, asked_left, first_left, may_left, left_images, synced_as_read, stands_again}
 use Rattle.ep_pad_file.proofs.pad_file.PadFile.restart.Goals as goal
 
 pub returns-in-Ok-clause-left : goal.returns-in-Ok-clause-left
 returns-in-Ok-clause-left g c rs pending may =
     let t = left_tells _ rs pending may in
     let r = c.in-Ok.ensures.crash t.0 t.1 in
-    let asked = asked_left t.0 _ r.0 rs pending t.2 r.1 in (
-      first_left g.D.Disk.moment g.D.Disk.since _ _ _ _ rs pending
-          (λ image left. ⊎_elim (image_left _ t.0 rs pending t.1 t.2 image) (λ same. subst (IsLeft rs pending) (sym same) asked) left)
-          (λ image m. left_mends rs pending r.0 image asked m) r.2,
-      tt,
-    )
+    let asked = asked_left t.0 _ r.0 rs pending t.2 r.1 in
+    let run = first_left g.D.Disk.moment g.D.Disk.since _ _ _ _ rs pending
+    (λ image left. ⊎_elim (image_left _ t.0 rs pending t.1 t.2 image) (λ same. subst (IsLeft rs pending) (sym same) asked) left)
+    (λ image m. left_mends rs pending r.0 image asked m) r.2 in
+    (run, left_images _ rs pending (λ image left. run.each image (g.met.D.Disk.counts_now _ _ image run.later left)) (g.met.D.Disk.reads_as_left _)
+        (λ d now. synced_as_read _ d _ _ rs pending now c.in-Ok.ensures.ready.held (g.met.D.Disk.reads_as_left _) (λ image left. run.each image (g.met.D.Disk.counts_now _ _ image run.later left))))
 
 pub returns-in-Err-clause-left : goal.returns-in-Err-clause-left
 returns-in-Err-clause-left g c rs pending may =
