@@ -1,0 +1,11 @@
+pub mod Steps
+pub mod Turns
+pub mod Waking
+pub mod Rereading
+pub mod Causes
+pub mod Stepping
+pub mod Beginning
+pub mod Found
+pub mod Kept
+pub mod Fronts
+pub mod Histories

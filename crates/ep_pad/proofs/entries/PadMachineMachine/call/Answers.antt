@@ -1,0 +1,5 @@
+use Rattle.ep_pad.proofs.Histories.{goes-on}
+use Rattle.ep_pad.proofs.entries.PadMachineMachine.call.Goals as goal
+
+pub returns : goal.returns
+returns g c h made = goes-on g.D.Disk.told g.D.Device.failures _ _ _ _ h made c.answer.ensures

@@ -1,0 +1,54 @@
+use Rattle.std.proofs.Common.{◌≡◌, ◌≤◌, sym, subst, refl, arith}
+use Rattle.ep_outside.specs.Disk.{settled as settled_at}
+use Rattle.ep_journal.specs.File.{mended}
+use Rattle.ep_history.specs.Machine.{settled}
+use Rattle.ep_pad_file.specs.PadFile.{disk_of}
+use Rattle.ep_pad_file.specs.Standing.{Holds, MayHold}
+use Rattle.ep_pad.specs.Opening.{found}
+use Rattle.ep_pad.proofs.Causes.{open-fault}
+use Rattle.ep_pad.proofs.Found.{found-legal, found-shut, found-told}
+use Rattle.ep_pad.proofs.Waking.{first, unbegun, unread, was-kept, woken}
+use Rattle.ep_pad.proofs.machine.PadMachine.open.Goals as goal
+
+pub returns-in-Err-clause-opens : goal.returns-in-Err-clause-opens
+returns-in-Err-clause-opens g c rs pending may legal =
+    let n = g.D.Device.failures c.args.disk in
+    let fault = open-fault _ _ _ _ _ c.in-Err.ensures.refused (c.in-Err.ensures.own_left rs pending may) in
+    let u = unread _ c.args.limits n _ (found c.args.limits rs pending n) _ (found-shut c.args.limits rs pending n) c.in-Err.ensures.later fault (c.in-Err.ensures.left rs pending may).1 in
+    (n, omega arith, (u.0, u.1, u.3))
+
+pub returns-in-Ok-begin-clause-first : goal.returns-in-Ok-begin-clause-first
+returns-in-Ok-begin-clause-first g c rs h legal =
+    first g.D.Disk.told g.D.Device.failures c.args.limits rs _ _ legal refl refl (c.in-Ok-begin.ensures.begins rs (c.in-Ok.ensures.records rs h) legal)
+
+pub returns-in-Ok-begin-clause-opens : goal.returns-in-Ok-begin-clause-opens
+returns-in-Ok-begin-clause-opens g c rs pending may legal =
+    let n = g.D.Device.failures (disk_of c.in-Ok.file) in
+    let st = found c.args.limits rs pending n in
+    let f = was-kept _ st (c.in-Ok.ensures.settled rs pending may) in
+    let begun = c.in-Ok-begin.ensures.begins (settled f.0 st).records f.1 (found-legal c.args.limits rs pending n f.0 legal) in (
+      n,
+      c.in-Ok.ensures.later,
+      woken g.D.Disk.told g.D.Device.failures n st _ _ f.0 (found-told c.args.limits rs pending n f.0) (found-shut c.args.limits rs pending n) (omega arith) begun refl,
+    )
+
+pub returns-in-Err-begin-clause-opens : goal.returns-in-Err-begin-clause-opens
+returns-in-Err-begin-clause-opens g c rs pending may legal =
+    let n = g.D.Device.failures (disk_of c.in-Ok.file) in
+    let st = found c.args.limits rs pending n in
+    let f = was-kept _ st (c.in-Ok.ensures.settled rs pending may) in
+    let begun = c.in-Err-begin.ensures.begins (settled f.0 st).records f.1 (found-legal c.args.limits rs pending n f.0 legal) in
+    let u = unbegun g.D.Disk.told g.D.Device.failures c.args.limits n st _ _ f.0 _ (found-told c.args.limits rs pending n f.0) (found-shut c.args.limits rs pending n)
+    (omega arith) (c.in-Ok.ensures.left rs pending may).1 begun in
+    (n, c.in-Ok.ensures.later, (u.0, u.1, subst (λ d. MayHold (g.D.Disk.told d) u.0.records u.0.pending) (sym c.into_disk.ensures) u.3))
+
+pub returns-in-Err-begin-clause-bad : goal.returns-in-Err-begin-clause-bad
+returns-in-Err-begin-clause-bad g c k n is why = c.in-Err-begin.ensures.bad (settled_at (mended k.seen)) n (c.in-Ok.ensures.file k is) why
+
+pub returns-in-Ok-begin-clause-begun : goal.returns-in-Ok-begin-clause-begun
+returns-in-Ok-begin-clause-begun g c tell =
+    let t = tell (disk_of c.in-Ok.file) in
+    let l = c.in-Ok-begin.ensures.found t.0 t.1 in
+    let held = subst (λ o. Holds o l.0) (sym t.1) l.1 in
+    let f = first g.D.Disk.told g.D.Device.failures c.args.limits l.0 _ _ l.2 refl refl (c.in-Ok-begin.ensures.begins l.0 held l.2) in
+    (f.0, f.0, f.1, refl, f.3)

@@ -1,0 +1,43 @@
+use Rattle.std.proofs.Common.{◌≡◌, ◌∙◌, ◌≤◌, ◌+◌, sym, ap, subst, arith}
+use Rattle.std.proofs.lemmas.Result.{err_from_is_err_and}
+use Rattle.ep_outside.specs.declared.limits.Limits.{Limits}
+use Rattle.ep_history.specs.Records.{told}
+use Rattle.ep_history.specs.declared.record.Record.TheVariants as record_of
+use Rattle.ep_pad_file.specs.Standing.{Holds, MayHold}
+use Rattle.ep_pad.specs.Standing.{opening}
+use Rattle.ep_pad.proofs.Beginning.{opens-with, not-read, not-ready, not-kept}
+use Rattle.ep_pad.proofs.Causes.{append-fault}
+use Rattle.ep_pad.proofs.opening.begin.Goals as goal
+
+pub returns-in_err-pad-clause-begins : goal.returns-in_err-pad-clause-begins
+returns-in_err-pad-clause-begins g c rs h legal =
+    let p = err_from_is_err_and c.from_residual.result c.from_residual.ensures.1 in
+    rw (p.1, p.2) (not-read g.D.Disk.told g.D.Device.failures c.args.limits rs _ _ _ c.in_err-pad.ensures.later c.in_err-pad.ensures.told (c.in_err-pad.ensures.own rs h legal))
+
+pub returns-in_err-prepared-clause-begins : goal.returns-in_err-prepared-clause-begins
+returns-in_err-prepared-clause-begins g c rs h legal =
+    let p = err_from_is_err_and c.from_residual-in_err-prepared.result c.from_residual-in_err-prepared.ensures.1 in
+    let epoch = c.epoch.ensures (told c.args.limits rs) (c.in_ok-pad.ensures.pad rs h legal) in
+    let next = c.in-Some.ensures in
+    let is : record_of.Open c.in-Some.epoch ≡ opening (told c.args.limits rs) = ap record_of.Open (omega (arith, epoch, next)) in
+    let opens = opens-with c.args.limits rs _ _ is
+    (λ st records same. c.in_err-prepared.ensures.machine st (subst (λ t. Holds t st.records) (sym c.in_ok-pad.ensures.told) (subst (Holds (g.D.Disk.told c.args.file.now.journal.disk)) (sym records) h))
+    (ap (λ (l : Limits). l.journal) same ∙ sym c.requires.limit ∙ sym c.in_ok-pad.ensures.limit)) in
+    rw (p.1, p.2) (not-ready g.D.Disk.told g.D.Device.failures c.args.limits rs _ _ _ _ _ c.in_ok-pad.ensures.later c.in_err-prepared.ensures.failures
+    (c.in_err-prepared.ensures.told ∙ c.in_ok-pad.ensures.told) (c.in_ok-pad.ensures.settled rs h) opens c.in_err-prepared.ensures.refused)
+
+pub returns-in_err-append-clause-begins : goal.returns-in_err-append-clause-begins
+returns-in_err-append-clause-begins g c rs h legal =
+    let p = err_from_is_err_and c.from_residual-in_err-append.result c.from_residual-in_err-append.ensures.1 in
+    let epoch = c.epoch.ensures (told c.args.limits rs) (c.in_ok-pad.ensures.pad rs h legal) in
+    let next = c.in-Some.ensures in
+    let is : record_of.Open c.in-Some.epoch ≡ opening (told c.args.limits rs) = ap record_of.Open (omega (arith, epoch, next)) in
+    let opens = opens-with c.args.limits rs _ _ is
+    (λ st records same. c.in_ok-prepared.ensures.machine st (subst (λ t. Holds t st.records) (sym c.in_ok-pad.ensures.told) (subst (Holds (g.D.Disk.told c.args.file.now.journal.disk)) (sym records) h))
+    (ap (λ (l : Limits). l.journal) same ∙ sym c.requires.limit ∙ sym c.in_ok-pad.ensures.limit)) in
+    let held = subst (λ t. Holds t rs) (sym (c.in_ok-prepared.ensures.told ∙ c.in_ok-pad.ensures.told)) h in
+    let earlier = c.in_ok-pad.ensures.later in
+    let still = c.in_ok-prepared.ensures.failures in
+    rw (p.1, p.2) (not-kept g.D.Disk.told g.D.Device.failures c.args.limits rs _ _ _ _ _ _ (omega (arith, earlier, still)) c.in_err-append.ensures.later
+    (c.in_ok-prepared.ensures.prepared ∙ is) (c.in_err-append.ensures.left rs held).1 opens c.in_ok-prepared.ensures.fits
+    (append-fault _ _ _ _ c.in_err-append.ensures.refused))

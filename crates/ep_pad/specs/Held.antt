@@ -1,0 +1,11 @@
+-- What a machine holds, as contracts see it.
+use Rattle.std.specs.Prelude.{Bool}
+use Rattle.ep_outside.specs.declared.limits.Limits.{Limits}
+use Rattle.ep_pad_state.specs.declared.pad.Pad.{Pad}
+
+-- the disk of its file, its limits, the pad in memory, and whether it is open
+pub record Held (D : Type 0) : Type 0 where
+  pub disk : D
+  pub limits : Limits
+  pub pad : Pad
+  pub is_open : Bool

@@ -1,0 +1,93 @@
+-- What opening a machine comes to.
+use Rattle.std.specs.Prelude.{◌≡◌, ◌⊎◌, ℕ, ◌-◌, ◌^◌, ◌<◌, ◌≤◌, Bool, true, false, List, [], ◌∷◌, ◌++◌, map, take, get_or, Option, Some, None, Err}
+use Rattle.std.specs.List.{AllByRecursion}
+use Rattle.ep_outside.specs.Disk.{Contents}
+use Rattle.ep_outside.specs.declared.limits.Limits.{Limits}
+use Rattle.ep_history.specs.Pad.{reopened}
+use Rattle.ep_history.specs.Records.{AreLegal, IsNext, told}
+use Rattle.ep_history.specs.Entries.{Entry}
+use Rattle.ep_history.specs.Machine.{MachineState, IsThen, IsClosedStep, journal_fault, open_record, reopening, settled}
+use Rattle.ep_history.specs.declared.pad_bad.PadBad.{PadBad}
+use Rattle.ep_history.specs.declared.pad_bad.PadBad.TheVariants.{NoMemory, Store}
+use Rattle.ep_history.specs.declared.record.Record.{Record}
+use Rattle.ep_journal.specs.File.{records_of}
+use Rattle.ep_record.specs.Bytes.{bytes_of, IsEncoding, IsRecord}
+use Rattle.ep_pad_file.specs.Standing.{size, Holds, MayHold, StandsFor}
+use Rattle.ep_pad_state.specs.Held.{IsPad}
+use Rattle.ep_pad_state.specs.declared.pad.Pad.{Pad}
+use Rattle.ep_pad.specs.Standing.{opening}
+
+-- a count of faults rose to this, or stands at the greatest that is counted
+pub record HasRisenTo (before now n : ℕ) : Type 0 where
+  pub is : now ≡ n
+  pub risen : (before < n) ⊎ (n ≡ 2 ^ 64 - 1)
+
+-- memory was wanting, or the store failed
+pub data IsReadFault (before now : ℕ) (bad : PadBad) : Type 0 where
+  Wants : bad ≡ NoMemory → IsReadFault before now bad
+  Faults : (count : ℕ) → bad ≡ Store count → HasRisenTo before now count → IsReadFault before now bad
+
+-- why the journal of a machine with these limits and records doesn't take the record of its opening, if it doesn't
+abbrev pub OpensWith : Limits → List Record → Option PadBad → Type 0
+OpensWith limits rs why =
+    (st : MachineState) → st.records ≡ rs → st.pad.limits ≡ limits → journal_fault size st (opening (told limits rs)) ≡ why
+
+-- ---- a file's records are read back
+
+-- a file's first records are these, a legal list
+pub record IsFront (limits : Limits) (file : List ℕ) (rs : List Record) (n : ℕ) : Type 0 where
+  pub bytes : map bytes_of rs ≡ take n (records_of file)
+  pub records : AllByRecursion IsRecord rs
+  pub legal : AreLegal limits rs
+
+-- those before this one are a legal list, and its bytes are no record that may come behind them
+pub record IsBadAt (limits : Limits) (file : List ℕ) (k : ℕ) : Type 0 where
+  pub front : List Record
+  pub are : IsFront limits file front k
+  pub bad : (r : Record) → IsEncoding (get_or (records_of file) k []) r → IsNext (told limits front) r → ⊥
+
+-- a file whose records are a legal list
+abbrev pub IsLegalFile : Limits → List ℕ → Type 0
+IsLegalFile limits file = (rs : List Record) × StandsFor rs file × AreLegal limits rs
+
+-- ---- a file that holds these records is opened
+
+module _ {D : Type 0} (told_by : D → Option Contents) (failures : D → ℕ) (limits : Limits) (rs : List Record) where
+  -- the opening's record is kept behind them, and the pad is what they tell, in the next opening
+  pub record Begins (old new : D) (made : Pad) : Type 0 where
+    pub holds : Holds (told_by new) (rs ++ opening (told limits rs) ∷ [])
+    pub fits : OpensWith limits rs None
+    pub pad : IsPad made (reopened (told limits rs))
+    pub later : failures old ≤ failures new
+
+  -- the records were not read, and the file is as it was; the opening's record is too long; or the store failed at it
+  pub data IsCause (old : D) (bad : PadBad) (new : D) : Type 0 where
+    IsUnread : IsReadFault (failures old) (failures new) bad → told_by new ≡ told_by old → IsCause old bad new
+    IsFull : OpensWith limits rs (Some bad) → MayHold (told_by new) rs [] → IsCause old bad new
+    FailsAt : (count : ℕ) → bad ≡ Store count → HasRisenTo (failures old) (failures new) count → OpensWith limits rs None
+        → MayHold (told_by new) rs (opening (told limits rs) ∷ []) → IsCause old bad new
+
+  -- it isn't, for this cause
+  pub record BeginsNot (old : D) (bad : PadBad) (new : D) : Type 0 where
+    pub later : failures old ≤ failures new
+    pub cause : IsCause old bad new
+
+-- ---- a machine is woken
+
+-- an open machine stays as it is; a closed one has opened itself
+pub data IsWoken (st mid : MachineState) : Type 0 where
+  Was : st.is_open ≡ true → mid ≡ st → IsWoken st mid
+  Opened : (kept : Bool) → st.is_open ≡ false → journal_fault size (settled kept st) (open_record (settled kept st)) ≡ None
+      → IsThen (reopening (settled kept st)) mid → IsWoken st mid
+
+-- a closed one has not, and any entry is refused for that
+abbrev pub Sleeps : MachineState → PadBad → MachineState → Type 0
+Sleeps st bad new = (st.is_open ≡ false) × ((e : Entry) → IsClosedStep size st e (Err bad) new)
+
+-- a machine that stopped
+abbrev pub stopped : MachineState → MachineState
+stopped st = record st { is_open = false }
+
+-- a closed machine whose file has these records, and where it was being appended this pending one
+abbrev pub found : Limits → List Record → List Record → ℕ → MachineState
+found limits rs pending faults = record { records = rs; pad = told limits rs; is_open = false; pending = pending; faults = faults }

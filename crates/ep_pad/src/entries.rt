@@ -1,0 +1,141 @@
+//! The calls as entries with replies, so that a pad is a `Machine`.
+
+ghost use Rattle.ep_pad.specs.Entries.{MayAsk, entry_of, reply_of};
+ghost use Rattle.ep_pad.specs.Standing.{Makes};
+
+use crate::machine::PadMachine;
+use ep_apply::Doc;
+use ep_cs::Change;
+use ep_history::PadBad;
+use ep_outside::{Disk, Machine};
+use ep_pad_state::{CatchUp, Committed, Fetched, PadStatus, Piece, Welcome};
+use ep_units::{Grant, Session, Units};
+
+/// What is asked of a pad. `now` is the moment, in milliseconds.
+#[derive(Drop)]
+pub enum PadEntry {
+    Login {
+        grant: Grant,
+        now: u64,
+    },
+    Resume {
+        grant: Grant,
+        rev: u64,
+        birth: Option<u64>,
+        author: Option<Units>,
+        now: u64,
+    },
+    Accept {
+        session: Session,
+        base: u64,
+        change: Change,
+        now: u64,
+    },
+    Fetch {
+        session: Session,
+        from: u64,
+        told: u64,
+    },
+    Leave {
+        session: Session,
+    },
+    Create {
+        text: Units,
+        now: u64,
+    },
+    SetText {
+        text: Units,
+        now: u64,
+    },
+    Delete {
+        now: u64,
+    },
+    SetPublic {
+        on: bool,
+    },
+    Text {
+        rev: Option<u64>,
+    },
+    History {
+        session: Session,
+        start: u64,
+        count: u64,
+    },
+    Status,
+}
+
+/// What a pad replies.
+#[derive(Drop)]
+pub enum PadReply {
+    Welcome(Result<Welcome, PadBad>),
+    CatchUp(Result<CatchUp, PadBad>),
+    Committed(Result<Committed, PadBad>),
+    Fetched(Result<Fetched, PadBad>),
+    Done(Result<(), PadBad>),
+    Birth(Result<u64, PadBad>),
+    Text(Result<Doc, PadBad>),
+    Piece(Result<Piece, PadBad>),
+    Status(Result<PadStatus, PadBad>),
+}
+
+impl<D: Disk> PadMachine<D> {
+    fn answer(&mut self, entry: PadEntry) -> PadReply
+        requires { MayAsk (entry_of entry) }
+        ensures { Makes D.told D.failures self.old (entry_of entry) (reply_of result) self.new }
+    {
+        match entry {
+            PadEntry::Login { grant, now } => PadReply::Welcome(self.login(&grant, now)),
+            PadEntry::Resume {
+                grant,
+                rev,
+                birth,
+                author,
+                now,
+            } => PadReply::CatchUp(self.resume(&grant, rev, birth, author.as_ref(), now)),
+            PadEntry::Accept {
+                session,
+                base,
+                change,
+                now,
+            } => PadReply::Committed(self.accept(session, base, change, now)),
+            PadEntry::Fetch {
+                session,
+                from,
+                told,
+            } => PadReply::Fetched(self.fetch(session, from, told)),
+            PadEntry::Leave { session } => PadReply::Done(self.leave(session)),
+            PadEntry::Create { text, now } => PadReply::Birth(self.create(&text, now)),
+            PadEntry::SetText { text, now } => PadReply::Committed(self.set_text(&text, now)),
+            PadEntry::Delete { now } => PadReply::Done(self.delete(now)),
+            PadEntry::SetPublic { on } => PadReply::Done(self.set_public(on)),
+            PadEntry::Text { rev } => PadReply::Text(self.text(rev)),
+            PadEntry::History {
+                session,
+                start,
+                count,
+            } => PadReply::Piece(self.history(session, start, count)),
+            PadEntry::Status => PadReply::Status(self.status()),
+        }
+    }
+}
+
+impl<D: Disk + Drop> Machine for PadMachine<D> {
+    ghost use Rattle.ep_pad.specs.Entries.{MayAsk, entry_of};
+    ghost use Rattle.ep_pad.specs.Histories.{HasMade, IsLegalWhere};
+
+    type Entry = PadEntry;
+
+    type Reply = PadReply;
+
+    ghost allows = { λ e. MayAsk (entry_of e) };
+
+    ghost stands = { λ m h. HasMade D.told D.failures m h };
+
+    ghost legal = { λ h. IsLegalWhere D.told h };
+
+    ghost stands_legal = { λ m h made tell. let x = made tell in (x.0, x.1, x.2, x.3) };
+
+    fn call(&mut self, entry: PadEntry) -> PadReply {
+        self.answer(entry)
+    }
+}

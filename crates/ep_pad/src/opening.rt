@@ -1,0 +1,163 @@
+//! Opening: the records of the file are read back, and the opening's own is appended.
+
+ghost use Rattle.std.specs.Prelude.{◌≡◌, ◌≤◌, ◌++◌, ◌∷◌, [], List, ℕ, true, false, Some, None, OnOk, IfErr, IfOk, MatchResult};
+ghost use Rattle.ep_history.specs.Machine.{MachineState, IsFirst, IsKeptState};
+ghost use Rattle.ep_history.specs.Records.{AreLegal, told};
+ghost use Rattle.ep_history.specs.declared.record.Record.{Record};
+ghost use Rattle.ep_journal.specs.File.{mended};
+ghost use Rattle.ep_outside.specs.Disk.{Contents, KeepsMarks};
+ghost use Rattle.ep_outside.specs.Crash.{IsAsked, image_at};
+ghost use Rattle.ep_pad_file.specs.PadFile.{disk_of, limit_of, IsReady as IsFileReady};
+ghost use Rattle.ep_pad_file.specs.Standing.{Holds, MayHold, StandsFor};
+ghost use Rattle.ep_pad_state.specs.Held.{IsPad};
+ghost use Rattle.ep_pad.specs.Histories.{HasMade};
+ghost use Rattle.ep_pad.specs.Standing.{opening, Stands};
+ghost use Rattle.ep_pad.specs.Opening.{found, stopped, Begins, BeginsNot, IsBadAt, IsLegalFile, IsReadFault, IsWoken, Sleeps};
+
+use crate::machine::PadMachine;
+use ep_history::{PadBad, Record};
+use ep_outside::{Crash, Disk, Image, Limits, Refused};
+use ep_pad_file::PadFile;
+use ep_pad_state::Pad;
+use std::alloc::Global;
+
+/// The pad that the records of a file tell, which nobody has entered.
+fn reread<D: Disk>(alloc: Global, file: &mut PadFile<D>, limits: Limits) -> Result<Pad, PadBad>
+    requires { IsFileReady D.told file.old }
+    ensures pad { (rs : List Record) → Holds (D.told (disk_of file.old)) rs → AreLegal limits rs → IfOk result (λ pad. IsPad pad (told limits rs)) }
+    ensures own { (rs : List Record) → Holds (D.told (disk_of file.old)) rs → AreLegal limits rs
+        → IfErr result (λ bad. IsReadFault (D.failures (disk_of file.old)) (D.failures (disk_of file.new)) bad) }
+    ensures found { (c : Contents) → D.told (disk_of file.old) ≡ Some c → IfOk result (λ _. IsLegalFile limits c.seen) }
+    ensures bad { (c : Contents) (k : ℕ) → D.told (disk_of file.old) ≡ Some c → IfErr result (λ why. why ≡ PadBad.BadRecord k → IsBadAt limits c.seen k) }
+    ensures settled { (rs : List Record) → Holds (D.told (disk_of file.old)) rs → MayHold (D.told (disk_of file.old)) rs [] }
+    ensures told { D.told (disk_of file.new) ≡ D.told (disk_of file.old) }
+    ensures ready { OnOk result (IsFileReady D.told file.new) }
+    ensures limit { limit_of file.new ≡ limit_of file.old }
+    ensures marks { KeepsMarks D.is_steady D.stops_alone D.left (disk_of file.old) (disk_of file.new) }
+    ensures later { D.failures (disk_of file.old) ≤ D.failures (disk_of file.new) }
+{
+    let mut pad = Pad::unopened(alloc, limits);
+    for i in 0..file.count() {
+        let record = file.read(alloc, i)?;
+        if !pad.next(alloc, record)? {
+            return Err(PadBad::BadRecord(i));
+        }
+    }
+    Ok(pad)
+}
+
+/// Reads the records of a file back, and keeps the opening's own behind them: the pad then, in its next opening.
+fn begin<D: Disk>(alloc: Global, file: &mut PadFile<D>, limits: Limits) -> Result<Pad, PadBad>
+    requires file { IsFileReady D.told file.old }
+    requires limit { limit_of file.old ≡ limits.journal }
+    ensures begins { (rs : List Record) → Holds (D.told (disk_of file.old)) rs → AreLegal limits rs → MatchResult result
+        (Begins D.told D.failures limits rs (disk_of file.old) (disk_of file.new))
+        (λ bad. BeginsNot D.told D.failures limits rs (disk_of file.old) bad (disk_of file.new)) }
+    ensures found { (c : Contents) → D.told (disk_of file.old) ≡ Some c → IfOk result (λ _. IsLegalFile limits c.seen) }
+    ensures bad { (c : Contents) (k : ℕ) → D.told (disk_of file.old) ≡ Some c → IfErr result (λ why. why ≡ PadBad.BadRecord k → IsBadAt limits c.seen k) }
+    ensures ready { OnOk result (IsFileReady D.told file.new) }
+    ensures limit { limit_of file.new ≡ limit_of file.old }
+    ensures marks { KeepsMarks D.is_steady D.stops_alone D.left (disk_of file.old) (disk_of file.new) }
+    ensures later { D.failures (disk_of file.old) ≤ D.failures (disk_of file.new) }
+{
+    let mut pad = reread(alloc, file, limits)?;
+    let Some(epoch) = pad.epoch().checked_add(1) else {
+        return Err(PadBad::NoMemory);
+    };
+    let record = Record::Open { epoch };
+    let prepared = file.prepare(alloc, &record)?;
+    pad.next(alloc, record)?;
+    file.append(prepared)?;
+    Ok(pad)
+}
+
+impl<D: Disk> PadMachine<D> {
+    /// Opens a closed machine again.
+    pub(crate) fn wake(&mut self) -> Result<(), PadBad>
+        ensures wakes { (st : MachineState) → IsKeptState st → Stands D.told D.failures self.old st → MatchResult result
+            (λ _. (mid : MachineState) × IsWoken st mid × Stands D.told D.failures self.new mid)
+            (λ bad. (new : MachineState) × Sleeps st bad new × Stands D.told D.failures self.new new) }
+        ensures open { OnOk result (self.new.is_open ≡ true) }
+    {
+        if self.is_open {
+            return Ok(());
+        }
+        self.file.reopen(self.alloc)?;
+        self.pad = begin(self.alloc, &mut self.file, self.limits)?;
+        self.is_open = true;
+        Ok(())
+    }
+
+    /// Opens the pad of a disk. A refusal hands the disk back.
+    pub fn open(alloc: Global, disk: D, limits: Limits) -> Result<PadMachine<D>, Refused<D, PadBad>>
+        // It has made no call yet.
+        ensures begun { IfOk result (λ m. HasMade D.told D.failures m []) }
+        // A disk that tells a legal list of records.
+        ensures first { (rs : List Record) → Holds (D.told disk) rs → AreLegal limits rs
+            → IfOk result (λ m. (st : MachineState) × IsFirst st × (st.records ≡ rs ++ opening (told limits rs) ∷ []) × Stands D.told D.failures m st) }
+        // Where a disk tells, its records are such a list; and else the refusal says which is the first that can't come there.
+        ensures found { (c : Contents) → D.told disk ≡ Some c → IfOk result (λ _. IsLegalFile limits (mended c.seen)) }
+        ensures bad { (c : Contents) (k : ℕ) → D.told disk ≡ Some c → IfErr result (λ refused. refused.why ≡ PadBad.BadRecord k → IsBadAt limits (mended c.seen) k) }
+        // A disk that was left while a record was being appended, or none.
+        ensures opens { (rs pending : List Record) → MayHold (D.told disk) rs pending → AreLegal limits (rs ++ pending) → (n : ℕ) × (D.failures disk ≤ n) × MatchResult result
+            (λ m. (mid : MachineState) × IsWoken (found limits rs pending n) mid × Stands D.told D.failures m mid)
+            (λ refused. (next : MachineState) × Sleeps (found limits rs pending n) refused.why next × MayHold (D.told refused.back) next.records next.pending) }
+    {
+        let mut file = match PadFile::open(alloc, disk, limits.journal) {
+            Ok(file) => file,
+            Err(refused) => return Err(refused),
+        };
+        match begin(alloc, &mut file, limits) {
+            Ok(pad) => Ok(PadMachine {
+                alloc,
+                limits,
+                file,
+                pad,
+                is_open: true,
+            }),
+            Err(why) => Err(Refused {
+                back: file.into_disk(),
+                why,
+            }),
+        }
+    }
+
+    /// The number of the opening.
+    pub fn epoch(&self) -> u64
+        ensures { (st : MachineState) → Stands D.told D.failures self.now st → st.is_open ≡ true → result ≡ st.pad.epoch }
+    {
+        self.pad.epoch()
+    }
+}
+
+impl<D: Crash> PadMachine<D> {
+    ghost use Rattle.ep_outside.specs.declared.image.Image.{Image};
+
+    /// From now, after so many device calls, each call of the disk fails.
+    pub fn stop_after(&mut self, calls: u64, asked: Image)
+        ensures stop { D.left self.new.disk ≡ Some calls }
+        ensures image { D.image self.new.disk ≡ asked }
+        ensures stands { (st : MachineState) → Stands D.told D.failures self.old st → Stands D.told D.failures self.new st }
+    {
+        self.file.stop_after(calls, asked);
+    }
+
+    /// Restarts the disk, which then holds the image that was asked for, and opens the machine again: its sessions are of
+    /// an older opening.
+    pub fn restart(&mut self) -> Result<(), PadBad>
+        // It opens the image that was asked for.
+        ensures image { (c : Contents) → D.told self.old.disk ≡ Some c → (image : List ℕ) × IsAsked c (image_at (D.left self.old.disk) (D.image self.old.disk)) image
+            × ((rs : List Record) → StandsFor rs image → AreLegal self.old.limits rs
+            → OnOk result ((st : MachineState) × IsFirst st × (st.records ≡ rs ++ opening (told self.old.limits rs) ∷ []) × Stands D.told D.failures self.new st)) }
+        ensures works { D.left self.new.disk ≡ None }
+        ensures restarts { (st : MachineState) → IsKeptState st → Stands D.told D.failures self.old st → MatchResult result
+            (λ _. (mid : MachineState) × IsWoken (stopped st) mid × Stands D.told D.failures self.new mid)
+            (λ bad. (next : MachineState) × Sleeps (stopped st) bad next × Stands D.told D.failures self.new next) }
+    {
+        self.is_open = false;
+        self.file.restart(self.alloc)?;
+        self.pad = begin(self.alloc, &mut self.file, self.limits)?;
+        self.is_open = true;
+        Ok(())
+    }
+}
