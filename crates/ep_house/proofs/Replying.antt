@@ -1,5 +1,5 @@
 -- The last call of a legal history has a reply of its kind.
-use Rattle.std.proofs.Common.{◌≡◌, List, [], ◌∷◌, ◌++◌, refl, sym, ap, ◌∙◌, subst, Bool}
+use Rattle.std.proofs.Common.{◌≡◌, List, [], ◌∷◌, ◌++◌, refl, ap, ◌∙◌, subst, Bool}
 use Rattle.std.proofs.lemmas.List.{map-append}
 use Rattle.ep_dir_records.specs.Answers.{Seen}
 use Rattle.ep_cell.specs.declared.view.Call.{Call}
