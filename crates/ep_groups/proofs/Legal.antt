@@ -1,11 +1,10 @@
 -- Legal histories where every map is told.
-use Rattle.std.specs.Prelude.{ℕ, ◌≡◌, Bool, true, List, [], ◌∷◌, Option, Some, None, Result, Ok, Err}
-use Rattle.std.proofs.Common.{refl, sym, ◌∙◌, subst, ap}
+use Rattle.std.specs.Prelude.{◌≡◌, Bool, true, List, [], ◌∷◌, Option, Some, None, Result}
+use Rattle.std.proofs.Common.{refl, sym, ◌∙◌, subst}
 use Rattle.ep_outside.specs.Kept.{IsTold}
 use Rattle.ep_outside.specs.declared.keeper.Pair.{Pair}
 use Rattle.ep_outside.specs.declared.keeper.Put.{Put}
-use Rattle.ep_units.specs.declared.grant.Grant.{Grant}
-use Rattle.ep_dir_records.specs.Answers.{Answers, Makes, Seen, Tells}
+use Rattle.ep_dir_records.specs.Answers.{Answers, Makes, Seen}
 use Rattle.ep_dir_records.specs.declared.dir_bad.DirBad.{DirBad}
 use Rattle.ep_groups.specs.History.{AllTell, Call, Follows, IsLegal, Leads, Runs, Step}
 use Rattle.ep_groups.specs.declared.entries.DirEntry.{DirEntry}

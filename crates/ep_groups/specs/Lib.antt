@@ -4,3 +4,4 @@ pub mod Members
 pub mod History
 pub mod Ours
 pub mod Calls
+pub mod Asking

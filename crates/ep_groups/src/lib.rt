@@ -9,6 +9,7 @@
 
 mod authors;
 mod dir_machine;
+mod dir_port;
 mod entries;
 mod grants;
 mod group_pads;
@@ -18,6 +19,7 @@ mod read_only;
 mod sessions;
 
 pub use dir_machine::DirMachine;
+pub use dir_port::DirPort;
 pub use entries::{DirEntry, DirReply, GrantAsked, SessionAsked};
 pub use ep_dir_records::{DirBad, Drawn, Listed, SessionInfo};
 pub use laws::{is_call, kept_never, legal_follows, ours_stays};

@@ -1,4 +1,4 @@
--- What of the pads may cross threads.
+-- What of the pads and of the directory may cross threads.
 use denote.RattleType.{RattleType}
 use denote.Param.Send.{IsSend, IsSync, sendable}
 use denote.Param.SendFields.{declared_sync, declared_send, variants_send, as_row_send}
@@ -14,10 +14,16 @@ use Rattle.ep_outside.specs.declared.machine.Machine as machine
 use Rattle.ep_outside.specs.declared.device.Device as device
 use Rattle.ep_outside.specs.declared.disk.Disk as disk
 use Rattle.ep_outside.specs.declared.shelf.Shelf as shelf
+use Rattle.ep_outside.specs.declared.keeper.Keeper as keeper
 use Rattle.ep_cell.specs.contracts.cell.Cell as cell
 use Rattle.ep_cell.specs.contracts.cell.PassOf as pass
+use Rattle.ep_groups.specs.contracts.dir_machine.DirMachine as dir_machine
+use Rattle.ep_groups.specs.contracts.entries.DirEntry as entry
+use Rattle.ep_groups.specs.contracts.entries.DirReply as reply
+use Rattle.ep_groups.specs.contracts.entries.DirMachineMachine.TheImpl as dir_machine_machine
 use Rattle.ep_house.specs.declared.pad_over.PadOver as pad_over
 use Rattle.ep_house.specs.contracts.pass_bad.PassBad as bad
+use Rattle.ep_house.specs.contracts.directory.Directory as directory
 use Rattle.ep_house.specs.contracts.named.Named as named
 use Rattle.ep_house.specs.contracts.named.Waiting as waiting
 use Rattle.ep_house.specs.contracts.named.Kept as kept
@@ -54,3 +60,10 @@ module _ (H P D B E R : RattleType) (s : shelf.Ghosts H.Denot D.Denot) (t : devi
       let inner : IsSend (pass.the_row P E R) = pass_send P E R p-send in
       let outer : IsSend (pass.the_row (registry.the_row H P D B E R s t d e p m) name.the_row answer_row) = pass_send (registry.the_row H P D B E R s t d e p m) name.the_row answer_row registry_send in
       declared_send (pad_pass.the_type H P D B E R s t d e p m) (search (sendable, crosses) depth 20, (shared_send P E R m p-send, (inner, (outer, tt))))
+
+module _ (K : RattleType) (k : keeper.Ghosts K.Denot) (d : device.Ghosts K.Denot) (k-send : IsSend K) where
+  pub machine_send : IsSend (dir_machine.the_row K k d)
+  machine_send = search (sendable, crosses) depth 30
+
+  pub directory_sync : IsSync (directory.the_row K k d)
+  directory_sync = declared_sync (directory.the_type K k d) (search (sendable, crosses) depth 20, (cell_sync (dir_machine.the_row K k d) entry.the_row reply.the_row (dir_machine_machine.ghosts K k dir_machine_machine.no_dict d dir_machine_machine.no_dict dir_machine_machine.no_dict) machine_send, tt))

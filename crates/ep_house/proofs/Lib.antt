@@ -3,3 +3,4 @@ pub mod Opened
 pub mod Placing
 pub mod Halls
 pub mod Crossing
+pub mod Replying

@@ -1,9 +1,9 @@
 -- What is opened gets its place, or waits.
-use Rattle.std.proofs.Common.{◌≡◌, ℕ, ◌≤◌, inr, List, [], ◌∷◌, ◌++◌, sym, ap, ◌∙◌, subst, Option, Ok, Err}
+use Rattle.std.proofs.Common.{◌≡◌, ℕ, ◌≤◌, inr, List, [], ◌∷◌, ◌++◌, sym, ap, ◌∙◌, subst, Option, Some, None, Ok, Err}
 use Rattle.atomic_table.specs.Seated.{TableId}
 use Rattle.ep_outside.specs.Disk.{Contents}
 use Rattle.ep_house.specs.declared.pass_bad.PassBad.TheVariants as bad
-use Rattle.ep_house.specs.Register.{Answer, Comes, Keeps, MayOpen, Places, Refuses, Register, Step, Waits, found_in, in_cell, on_disk, without}
+use Rattle.ep_house.specs.Register.{Answer, Comes, Keeps, MayOpen, Places, Refuses, Register, Step, StaysIn, StillWaits, Waits, found_in, in_cell, on_disk, without}
 
 -- a disk that was opened may have any cell
 pub anywhere : {H D B : Type 0} (s t : Register H D) (name : List ℕ) (c : TableId) (d : D) (a : Answer B) → Places s name (in_cell c) a t → Places s name (on_disk d) a t
@@ -11,7 +11,7 @@ anywhere s t name c d (Ok id) p = (p.0, p.1, p.2, p.3, tt)
 anywhere s t name c d (Err (bad.Pads n)) p = p
 anywhere s t name c d (Err (bad.Shelf n)) p = p
 anywhere s t name c d (Err (bad.Pad b)) p = p
-anywhere s t name c d (Err bad.NoMemory) p = p
+anywhere s t name c d (Err bad.NoMemory) p = (p.0, p.1, p.2, (p.3.0, p.3.1, tt))
 
 module _ {H D B : Type 0} (failed : H → ℕ) (told : H → List ℕ → Option Contents) (disk_failed : D → ℕ) (disk_told : D → Option Contents) (refuses : D → D → B → Type 0) where
   keeps_on : (s r t : Register H D) (name : List ℕ) → Keeps failed told s r name → t.limit ≡ r.limit → t.shelf ≡ r.shelf → Keeps failed told s t name
@@ -20,6 +20,10 @@ module _ {H D B : Type 0} (failed : H → ℕ) (told : H → List ℕ → Option
     later = subst (λ (h : H). failed s.shelf ≤ failed h) (sym shelf) k.later;
     others = λ other differs. ap (λ (h : H). told h other) shelf ∙ k.others other differs;
   }
+
+  still_waits : (o : Option (Waits D)) (shelf : H) (name : List ℕ) (w x : Waits D) → Comes told disk_failed disk_told o shelf name w → StaysIn w x → StillWaits o x
+  still_waits None shelf name w x comes stays = tt
+  still_waits (Some old) shelf name w x comes stays = subst (λ v. StaysIn v x) comes stays
 
   step_here : (s r t : Register H D) (name : List ℕ) (w : Waits D) (a : Answer B) → MayOpen s name → Keeps failed told s r name → r.cells ≡ s.cells → r.waiting ≡ without s.waiting name
       → Comes told disk_failed disk_told (found_in s.waiting name) s.shelf name w → Places r name w a t → Step failed told disk_failed disk_told refuses s name a t
@@ -39,7 +43,7 @@ module _ {H D B : Type 0} (failed : H → ℕ) (told : H → List ℕ → Option
     room = λ shut. may.room;
     keeps = keeps_on s r t name keeps p.0 p.1;
     cells = p.2 ∙ cells;
-    waiting = inr (p.3.0, p.3.1 ∙ ap (λ l. l ++ (name, p.3.0) ∷ []) taken);
+    waiting = inr (p.3.0, p.3.1 ∙ ap (λ l. l ++ (name, p.3.0) ∷ []) taken, still_waits (found_in s.waiting name) s.shelf name w p.3.0 comes p.3.2);
   }
 
   -- what came for a name was opened, and got its place

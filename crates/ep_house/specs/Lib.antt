@@ -3,3 +3,4 @@ pub mod Named
 pub mod Registry
 pub mod Told
 pub mod Pads
+pub mod Replies

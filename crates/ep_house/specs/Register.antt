@@ -44,10 +44,20 @@ abbrev pub IsIn : {D : Type 0} → Waits D → TableId → Type 0
 IsIn (on_disk d) id = Unit {0}
 IsIn (in_cell c) id = id ≡ c
 
--- what was to be opened gets its place in the cell that is answered; where memory ran out, something waits
+-- a pad that waits in a cell goes on to wait in that cell
+abbrev pub StaysIn : {D : Type 0} → Waits D → Waits D → Type 0
+StaysIn (on_disk d) w = Unit {0}
+StaysIn (in_cell c) w = w ≡ in_cell c
+
+-- so does one that may wait
+abbrev pub StillWaits : {D : Type 0} → Option (Waits D) → Waits D → Type 0
+StillWaits None w = Unit {0}
+StillWaits (Some old) w = StaysIn old w
+
+-- what was to be opened gets its place in the cell that is answered; where memory ran out, it waits
 abbrev pub Places : {H D B : Type 0} → Register H D → List ℕ → Waits D → Answer B → Register H D → Type 0
 Places s name w (Ok id) t = (t.limit ≡ s.limit) × (t.shelf ≡ s.shelf) × (t.cells ≡ s.cells ++ (name, id) ∷ []) × (t.waiting ≡ s.waiting) × IsIn w id
-Places {D = D} s name w (Err bad.NoMemory) t = (t.limit ≡ s.limit) × (t.shelf ≡ s.shelf) × (t.cells ≡ s.cells) × ((x : Waits D) × (t.waiting ≡ s.waiting ++ (name, x) ∷ []))
+Places {D = D} s name w (Err bad.NoMemory) t = (t.limit ≡ s.limit) × (t.shelf ≡ s.shelf) × (t.cells ≡ s.cells) × ((x : Waits D) × (t.waiting ≡ s.waiting ++ (name, x) ∷ []) × StaysIn w x)
 Places s name w (Err _) t = ⊥
 
 module _ {H D : Type 0} (failed : H → ℕ) (told : H → List ℕ → Option Contents) where
@@ -79,13 +89,14 @@ module _ {H D B : Type 0} (failed : H → ℕ) (told : H → List ℕ → Option
     pub cells : t.cells ≡ s.cells ++ (name, id) ∷ []
     pub waiting : t.waiting ≡ without s.waiting name
 
-  -- the shelf failed
+  -- the shelf failed, and no disk was taken off it
   pub record Fails (s : Register H D) (name : List ℕ) (n : ℕ) (t : Register H D) : Type 0 where
     pub may : MayOpen s name
     pub keeps : Keeps failed told s t name
     pub none : found_in s.waiting name ≡ None
     pub count : n ≡ failed t.shelf
     pub cause : HasRisen (failed s.shelf) (failed t.shelf)
+    pub unopened : told t.shelf name ≡ told s.shelf name
     pub cells : t.cells ≡ s.cells
     pub waiting : t.waiting ≡ s.waiting
 
@@ -100,12 +111,12 @@ module _ {H D B : Type 0} (failed : H → ℕ) (told : H → List ℕ → Option
     pub cells : t.cells ≡ s.cells
     pub waiting : t.waiting ≡ without s.waiting name ++ (name, on_disk back) ∷ []
 
-  -- memory ran out: what was to be opened waits
+  -- memory ran out: what was to be opened waits, or no disk was taken off the shelf
   pub record Lacks (s : Register H D) (name : List ℕ) (t : Register H D) : Type 0 where
     pub room : found_in s.cells name ≡ None → length s.cells < s.limit
     pub keeps : Keeps failed told s t name
     pub cells : t.cells ≡ s.cells
-    pub waiting : (t.waiting ≡ s.waiting) ⊎ ((w : Waits D) × (t.waiting ≡ without s.waiting name ++ (name, w) ∷ []))
+    pub waiting : ((t.waiting ≡ s.waiting) × (told t.shelf name ≡ told s.shelf name)) ⊎ ((w : Waits D) × (t.waiting ≡ without s.waiting name ++ (name, w) ∷ []) × StillWaits (found_in s.waiting name) w)
 
   -- a call with this answer leads from one state to the next
   abbrev pub Step : Register H D → List ℕ → Answer B → Register H D → Type 0

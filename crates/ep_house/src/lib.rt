@@ -1,11 +1,19 @@
-//! The pads of a server: one cell for each pad, which is opened at its first pass and stays open.
+//! The pads of a server and its directory: one cell for each pad, which is opened at its first pass and stays
+//! open, and one for the directory.
 //!
 //! `Registry` is a machine that answers a name with the name's one cell, and it stands in a cell of its own.
 //! The crates above may rest on what each pass of a pad has seen, and on what a hall has seen of the names
 //! that were asked for: which cell each name has, and why a name was refused one. It is over any machine that
 //! opens on a disk (`PadOver`), and is not for what a pad does.
+//!
+//! `Directory` is a `DirPort` over any keeper. What a call answers stands with the directory's machine.
 #![tactic(auto)]
 
+mod copying;
+mod dir_calls;
+#[cfg(test)]
+mod dir_tests;
+mod directory;
 #[cfg(test)]
 mod held;
 mod named;
@@ -14,11 +22,13 @@ mod pads;
 mod pass_bad;
 mod passing;
 mod registry;
+mod replies;
 #[cfg(test)]
 mod tests;
 #[cfg(test)]
 mod toy;
 
+pub use directory::{DirPass, Directory};
 pub use named::{Kept, Named, Waiting};
 pub use pad_over::PadOver;
 pub use pads::{Hall, PadPass, Pads};

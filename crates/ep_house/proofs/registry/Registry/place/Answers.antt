@@ -11,4 +11,4 @@ returns-in-Ok g c =
     (refl, refl, ap cells_of c.push_reserved.ensures.items ∙ (cells-append c.args.self.now.cells.items _ ∙ ap (λ t. cells_of c.args.self.now.cells.items ++ (c.args.name, t) ∷ []) (sym same)), refl, same)
 
 pub returns-in-Err : goal.returns-in-Err
-returns-in-Err g c = (refl, refl, refl, (in_cell (shared_id c.args.cell), ap (waits_of wait_of) c.push_reserved-in-Err.ensures.items ∙ waits-append wait_of c.args.self.now.kept.items _))
+returns-in-Err g c = (refl, refl, refl, (in_cell (shared_id c.args.cell), ap (waits_of wait_of) c.push_reserved-in-Err.ensures.items ∙ waits-append wait_of c.args.self.now.kept.items _, refl))

@@ -1,0 +1,30 @@
+//! The directory of a server, behind a lock.
+
+use ep_cell::{Cell, Pass};
+use ep_groups::DirMachine;
+use ep_outside::Keeper;
+use ep_units::NoMemory;
+use std::alloc::Global;
+
+/// The one cell of the directory.
+#[derive(Drop)]
+pub struct Directory<K: Keeper + Drop> {
+    pub(crate) alloc: Global,
+    pub(crate) cell: Cell<DirMachine<K>>,
+}
+
+/// A pass of the directory.
+#[derive(Drop)]
+pub struct DirPass<K: Keeper + Drop> {
+    pub(crate) pass: Pass<DirMachine<K>>,
+}
+
+impl<K: Keeper + Drop> Directory<K> {
+    /// The directory that stands in this keeper. No call is made yet.
+    pub fn open(alloc: Global, keeper: K) -> Result<Directory<K>, NoMemory> {
+        match Cell::new(alloc, DirMachine::new(alloc, keeper)) {
+            Ok(cell) => Ok(Directory { alloc, cell }),
+            Err(refused) => Err(refused.why),
+        }
+    }
+}
