@@ -8,9 +8,10 @@ use Rattle.ep_history.specs.Records.{AreLegal, IsNext, told}
 use Rattle.ep_history.specs.Entries.{Entry}
 use Rattle.ep_history.specs.Machine.{MachineState, IsThen, IsClosedStep, journal_fault, open_record, reopening, settled}
 use Rattle.ep_history.specs.declared.pad_bad.PadBad.{PadBad}
-use Rattle.ep_history.specs.declared.pad_bad.PadBad.TheVariants.{NoMemory, Store}
+use Rattle.ep_history.specs.declared.pad_bad.PadBad.TheVariants.{BadRecord, Foreign, JournalFull, NoMemory, Store}
 use Rattle.ep_history.specs.declared.record.Record.{Record}
 use Rattle.ep_journal.specs.File.{records_of}
+use Rattle.ep_journal.specs.Held.{IsForeign}
 use Rattle.ep_record.specs.Bytes.{bytes_of, IsEncoding, IsRecord}
 use Rattle.ep_pad_file.specs.Standing.{size, Holds, MayHold, StandsFor}
 use Rattle.ep_pad_state.specs.Held.{IsPad}
@@ -26,6 +27,20 @@ pub record HasRisenTo (before now n : ℕ) : Type 0 where
 pub data IsReadFault (before now : ℕ) (bad : PadBad) : Type 0 where
   Wants : bad ≡ NoMemory → IsReadFault before now bad
   Faults : (count : ℕ) → bad ≡ Store count → HasRisenTo before now count → IsReadFault before now bad
+
+-- an opening of a file is refused: for want of memory, as the store failed, for the length of its record, or for a record
+-- that is none or can't come there
+abbrev pub BeginRefused : ℕ → ℕ → PadBad → Type 0
+BeginRefused before now (Store n) = HasRisenTo before now n
+BeginRefused before now (JournalFull n) = Unit {0}
+BeginRefused before now (BadRecord k) = Unit {0}
+BeginRefused before now NoMemory = Unit {0}
+BeginRefused before now _ = ⊥
+
+-- and of a disk: or as its file is no journal
+abbrev pub OpenRefused : Option Contents → ℕ → ℕ → PadBad → Type 0
+OpenRefused told before now Foreign = IsForeign told
+OpenRefused told before now bad = BeginRefused before now bad
 
 -- why the journal of a machine with these limits and records doesn't take the record of its opening, if it doesn't
 abbrev pub OpensWith : Limits → List Record → Option PadBad → Type 0
@@ -91,3 +106,10 @@ stopped st = record st { is_open = false }
 -- a closed machine whose file has these records, and where it was being appended this pending one
 abbrev pub found : Limits → List Record → List Record → ℕ → MachineState
 found limits rs pending faults = record { records = rs; pad = told limits rs; is_open = false; pending = pending; faults = faults }
+
+-- a disk that was refused: it counts no fewer faults, and what an append left on it is left so still
+pub record IsRefused {D : Type 0} (told_by : D → Option Contents) (failures : D → ℕ) (limits : Limits) (disk back : D) (why : PadBad) : Type 0 where
+  pub cause : OpenRefused (told_by disk) (failures disk) (failures back) why
+  pub later : failures disk ≤ failures back
+  pub keeps : (rs pending : List Record) → MayHold (told_by disk) rs pending → AreLegal limits (rs ++ pending) → (n : ℕ) × (next : MachineState)
+      × Sleeps (found limits rs pending n) why next × MayHold (told_by back) next.records next.pending

@@ -12,7 +12,7 @@ ghost use Rattle.ep_pad_file.specs.Standing.{Holds, MayHold, StandsFor};
 ghost use Rattle.ep_pad_state.specs.Held.{IsPad};
 ghost use Rattle.ep_pad.specs.Histories.{HasMade};
 ghost use Rattle.ep_pad.specs.Standing.{opening, Stands};
-ghost use Rattle.ep_pad.specs.Opening.{found, stopped, Begins, BeginsNot, IsBadAt, IsLegalFile, IsReadFault, IsWoken, Sleeps};
+ghost use Rattle.ep_pad.specs.Opening.{found, stopped, BeginRefused, Begins, BeginsNot, IsBadAt, IsLegalFile, IsReadFault, IsRefused, IsWoken, Sleeps};
 
 use crate::machine::PadMachine;
 use ep_history::{PadBad, Record};
@@ -29,6 +29,7 @@ fn reread<D: Disk>(alloc: Global, file: &mut PadFile<D>, limits: Limits) -> Resu
         → IfErr result (λ bad. IsReadFault (D.failures (disk_of file.old)) (D.failures (disk_of file.new)) bad) }
     ensures found { (c : Contents) → D.told (disk_of file.old) ≡ Some c → IfOk result (λ _. IsLegalFile limits c.seen) }
     ensures bad { (c : Contents) (k : ℕ) → D.told (disk_of file.old) ≡ Some c → IfErr result (λ why. why ≡ PadBad.BadRecord k → IsBadAt limits c.seen k) }
+    ensures refused { IfErr result (BeginRefused (D.failures (disk_of file.old)) (D.failures (disk_of file.new))) }
     ensures settled { (rs : List Record) → Holds (D.told (disk_of file.old)) rs → MayHold (D.told (disk_of file.old)) rs [] }
     ensures told { D.told (disk_of file.new) ≡ D.told (disk_of file.old) }
     ensures ready { OnOk result (IsFileReady D.told file.new) }
@@ -53,6 +54,7 @@ fn begin<D: Disk>(alloc: Global, file: &mut PadFile<D>, limits: Limits) -> Resul
     ensures begins { (rs : List Record) → Holds (D.told (disk_of file.old)) rs → AreLegal limits rs → MatchResult result
         (Begins D.told D.failures limits rs (disk_of file.old) (disk_of file.new))
         (λ bad. BeginsNot D.told D.failures limits rs (disk_of file.old) bad (disk_of file.new)) }
+    ensures refused { IfErr result (BeginRefused (D.failures (disk_of file.old)) (D.failures (disk_of file.new))) }
     ensures found { (c : Contents) → D.told (disk_of file.old) ≡ Some c → IfOk result (λ _. IsLegalFile limits c.seen) }
     ensures bad { (c : Contents) (k : ℕ) → D.told (disk_of file.old) ≡ Some c → IfErr result (λ why. why ≡ PadBad.BadRecord k → IsBadAt limits c.seen k) }
     ensures ready { OnOk result (IsFileReady D.told file.new) }
@@ -99,9 +101,9 @@ impl<D: Disk> PadMachine<D> {
         ensures found { (c : Contents) → D.told disk ≡ Some c → IfOk result (λ _. IsLegalFile limits (mended c.seen)) }
         ensures bad { (c : Contents) (k : ℕ) → D.told disk ≡ Some c → IfErr result (λ refused. refused.why ≡ PadBad.BadRecord k → IsBadAt limits (mended c.seen) k) }
         // A disk that was left while a record was being appended, or none.
-        ensures opens { (rs pending : List Record) → MayHold (D.told disk) rs pending → AreLegal limits (rs ++ pending) → (n : ℕ) × (D.failures disk ≤ n) × MatchResult result
-            (λ m. (mid : MachineState) × IsWoken (found limits rs pending n) mid × Stands D.told D.failures m mid)
-            (λ refused. (next : MachineState) × Sleeps (found limits rs pending n) refused.why next × MayHold (D.told refused.back) next.records next.pending) }
+        ensures opens { (rs pending : List Record) → MayHold (D.told disk) rs pending → AreLegal limits (rs ++ pending)
+            → IfOk result (λ m. (n : ℕ) × (D.failures disk ≤ n) × ((mid : MachineState) × IsWoken (found limits rs pending n) mid × Stands D.told D.failures m mid)) }
+        ensures refused { IfErr result (λ r. IsRefused D.told D.failures limits disk r.back r.why) }
     {
         let mut file = match PadFile::open(alloc, disk, limits.journal) {
             Ok(file) => file,

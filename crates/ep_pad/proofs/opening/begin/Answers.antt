@@ -3,10 +3,11 @@ use Rattle.std.proofs.lemmas.Result.{err_from_is_err_and}
 use Rattle.ep_outside.specs.declared.limits.Limits.{Limits}
 use Rattle.ep_history.specs.Records.{told}
 use Rattle.ep_history.specs.declared.record.Record.TheVariants as record_of
-use Rattle.ep_pad_file.specs.Standing.{Holds, MayHold}
+use Rattle.ep_pad_file.specs.PadFile.{length_of, limit_of}
+use Rattle.ep_pad_file.specs.Standing.{size, Holds}
 use Rattle.ep_pad.specs.Standing.{opening}
 use Rattle.ep_pad.proofs.Beginning.{opens-with, not-read, not-ready, not-kept}
-use Rattle.ep_pad.proofs.Causes.{append-fault}
+use Rattle.ep_pad.proofs.Causes.{append-fault, append-refused, later-refused, long-refused}
 use Rattle.ep_pad.proofs.opening.begin.Goals as goal
 
 pub returns-in_err-pad-clause-begins : goal.returns-in_err-pad-clause-begins
@@ -41,3 +42,20 @@ returns-in_err-append-clause-begins g c rs h legal =
     rw (p.1, p.2) (not-kept g.D.Disk.told g.D.Device.failures c.args.limits rs _ _ _ _ _ _ (omega (arith, earlier, still)) c.in_err-append.ensures.later
     (c.in_ok-prepared.ensures.prepared ∙ is) (c.in_err-append.ensures.left rs held).1 opens c.in_ok-prepared.ensures.fits
     (append-fault _ _ _ _ c.in_err-append.ensures.refused))
+
+pub returns-in_err-pad-clause-refused : goal.returns-in_err-pad-clause-refused
+returns-in_err-pad-clause-refused g c =
+    let p = err_from_is_err_and c.from_residual.result c.from_residual.ensures.1 in
+    rw (p.1, p.2) c.in_err-pad.ensures.refused
+
+pub returns-in_err-prepared-clause-refused : goal.returns-in_err-prepared-clause-refused
+returns-in_err-prepared-clause-refused g c =
+    let p = err_from_is_err_and c.from_residual-in_err-prepared.result c.from_residual-in_err-prepared.ensures.1 in
+    rw (p.1, p.2) (long-refused (length_of c.reread.new.file) (limit_of c.reread.new.file) (size (record_of.Open c.in-Some.epoch)) _ _ _ c.in_err-prepared.ensures.refused)
+
+pub returns-in_err-append-clause-refused : goal.returns-in_err-append-clause-refused
+returns-in_err-append-clause-refused g c =
+    let p = err_from_is_err_and c.from_residual-in_err-append.result c.from_residual-in_err-append.ensures.1 in
+    let earlier = c.in_ok-pad.ensures.later in
+    let still = c.in_ok-prepared.ensures.failures in
+    rw (p.1, p.2) (later-refused _ _ _ _ (omega (arith, earlier, still)) (append-refused _ _ _ _ c.in_err-append.ensures.refused))

@@ -4,7 +4,7 @@ use Rattle.ep_history.specs.Records.{told, unopened}
 use Rattle.ep_pad_file.specs.Refusals.{ReadRefused}
 use Rattle.ep_pad_file.specs.Standing.{Holds}
 use Rattle.ep_pad_state.specs.Held.{IsPad}
-use Rattle.ep_pad.proofs.Causes.{read-fault}
+use Rattle.ep_pad.proofs.Causes.{later-refused, read-fault, read-refused}
 use Rattle.ep_pad.proofs.Fronts.{all-read, bad-bytes, bad-next, below-count, none-read, one-read, record-at}
 use Rattle.ep_pad.proofs.Rereading.{marks-on, next-at, told-at, never-false, taken-in}
 use Rattle.ep_pad.proofs.Waking.{fault-from}
@@ -65,3 +65,8 @@ returns-then-not-branch-clause-bad g c k n is bad =
 pub returns-clause-found : goal.returns-clause-found
 returns-clause-found g c k is =
     all-read c.args.limits k _ c.loop-i.i _ _ _ (c.loop-i.invariant.6 k is) is c.requires.held (let at = c.count-i-end.ensures.value in omega (arith, at))
+
+pub returns-in_err-record-clause-refused : goal.returns-in_err-record-clause-refused
+returns-in_err-record-clause-refused g c =
+    let p = err_from_is_err_and c.from_residual.result c.from_residual.ensures.1 in
+    rw (p.1, p.2) (later-refused _ _ _ _ c.loop-i.invariant.5 (read-refused _ _ _ _ _ _ _ _ c.in_err-record.ensures.refused))

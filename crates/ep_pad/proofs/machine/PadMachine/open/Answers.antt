@@ -1,21 +1,25 @@
-use Rattle.std.proofs.Common.{◌≡◌, ◌≤◌, sym, subst, refl, arith}
+use Rattle.std.proofs.Common.{◌≡◌, ◌≤◌, sym, ap, subst, refl, arith}
 use Rattle.ep_outside.specs.Disk.{settled as settled_at}
 use Rattle.ep_journal.specs.File.{mended}
 use Rattle.ep_history.specs.Machine.{settled}
 use Rattle.ep_pad_file.specs.PadFile.{disk_of}
 use Rattle.ep_pad_file.specs.Standing.{Holds, MayHold}
-use Rattle.ep_pad.specs.Opening.{found}
-use Rattle.ep_pad.proofs.Causes.{open-fault}
+use Rattle.ep_pad.specs.Opening.{found, OpenRefused}
+use Rattle.ep_pad.proofs.Causes.{begin-refused, file-refused, open-fault}
 use Rattle.ep_pad.proofs.Found.{found-legal, found-shut, found-told}
 use Rattle.ep_pad.proofs.Waking.{first, unbegun, unread, was-kept, woken}
 use Rattle.ep_pad.proofs.machine.PadMachine.open.Goals as goal
 
-pub returns-in-Err-clause-opens : goal.returns-in-Err-clause-opens
-returns-in-Err-clause-opens g c rs pending may legal =
-    let n = g.D.Device.failures c.args.disk in
-    let fault = open-fault _ _ _ _ _ c.in-Err.ensures.refused (c.in-Err.ensures.own_left rs pending may) in
-    let u = unread _ c.args.limits n _ (found c.args.limits rs pending n) _ (found-shut c.args.limits rs pending n) c.in-Err.ensures.later fault (c.in-Err.ensures.left rs pending may).1 in
-    (n, omega arith, (u.0, u.1, u.3))
+pub returns-in-Err-clause-refused : goal.returns-in-Err-clause-refused
+returns-in-Err-clause-refused g c = record {
+  cause = file-refused _ _ _ _ _ c.in-Err.ensures.refused;
+  later = c.in-Err.ensures.later;
+  keeps = λ rs pending may legal.
+      let n = g.D.Device.failures c.args.disk in
+      let fault = open-fault _ _ _ _ _ c.in-Err.ensures.refused (c.in-Err.ensures.own_left rs pending may) in
+      let u = unread _ c.args.limits n _ (found c.args.limits rs pending n) _ (found-shut c.args.limits rs pending n) c.in-Err.ensures.later fault (c.in-Err.ensures.left rs pending may).1 in
+      (n, u.0, u.1, u.3);
+}
 
 pub returns-in-Ok-begin-clause-first : goal.returns-in-Ok-begin-clause-first
 returns-in-Ok-begin-clause-first g c rs h legal =
@@ -32,15 +36,24 @@ returns-in-Ok-begin-clause-opens g c rs pending may legal =
       woken g.D.Disk.told g.D.Device.failures n st _ _ f.0 (found-told c.args.limits rs pending n f.0) (found-shut c.args.limits rs pending n) (omega arith) begun refl,
     )
 
-pub returns-in-Err-begin-clause-opens : goal.returns-in-Err-begin-clause-opens
-returns-in-Err-begin-clause-opens g c rs pending may legal =
-    let n = g.D.Device.failures (disk_of c.in-Ok.file) in
-    let st = found c.args.limits rs pending n in
-    let f = was-kept _ st (c.in-Ok.ensures.settled rs pending may) in
-    let begun = c.in-Err-begin.ensures.begins (settled f.0 st).records f.1 (found-legal c.args.limits rs pending n f.0 legal) in
-    let u = unbegun g.D.Disk.told g.D.Device.failures c.args.limits n st _ _ f.0 _ (found-told c.args.limits rs pending n f.0) (found-shut c.args.limits rs pending n)
-    (omega arith) (c.in-Ok.ensures.left rs pending may).1 begun in
-    (n, c.in-Ok.ensures.later, (u.0, u.1, subst (λ d. MayHold (g.D.Disk.told d) u.0.records u.0.pending) (sym c.into_disk.ensures) u.3))
+pub returns-in-Err-begin-clause-refused : goal.returns-in-Err-begin-clause-refused
+returns-in-Err-begin-clause-refused g c =
+    let same = ap g.D.Device.failures c.into_disk.ensures in
+    let a = c.in-Ok.ensures.later in
+    let b = c.in-Err-begin.ensures.later in
+    record {
+      cause = subst (λ n. OpenRefused (g.D.Disk.told c.args.disk) (g.D.Device.failures c.args.disk) n c.in-Err-begin.why) (sym same)
+          (begin-refused (g.D.Disk.told c.args.disk) (g.D.Device.failures c.args.disk) (g.D.Device.failures (disk_of c.in-Ok.file)) _ c.in-Err-begin.why a c.in-Err-begin.ensures.refused);
+      later = omega (arith, a, b, same);
+      keeps = λ rs pending may legal.
+          let n = g.D.Device.failures (disk_of c.in-Ok.file) in
+          let st = found c.args.limits rs pending n in
+          let f = was-kept _ st (c.in-Ok.ensures.settled rs pending may) in
+          let begun = c.in-Err-begin.ensures.begins (settled f.0 st).records f.1 (found-legal c.args.limits rs pending n f.0 legal) in
+          let u = unbegun g.D.Disk.told g.D.Device.failures c.args.limits n st _ _ f.0 _ (found-told c.args.limits rs pending n f.0) (found-shut c.args.limits rs pending n)
+          (omega arith) (c.in-Ok.ensures.left rs pending may).1 begun in
+          (n, u.0, u.1, subst (λ d. MayHold (g.D.Disk.told d) u.0.records u.0.pending) (sym c.into_disk.ensures) u.3);
+    }
 
 pub returns-in-Err-begin-clause-bad : goal.returns-in-Err-begin-clause-bad
 returns-in-Err-begin-clause-bad g c k n is why = c.in-Err-begin.ensures.bad (settled_at (mended k.seen)) n (c.in-Ok.ensures.file k is) why
