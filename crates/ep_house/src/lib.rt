@@ -4,7 +4,7 @@
 //! `Registry` is a machine that answers a name with the name's one cell, and it stands in a cell of its own.
 //! The crates above may rest on what each pass of a pad has seen, and on what a hall has seen of the names
 //! that were asked for: which cell each name has, and why a name was refused one. It is over any machine that
-//! opens on a disk (`PadOver`), and is not for what a pad does.
+//! opens on a disk (`PadOver`), as `PadMachine` of `ep_pad` does, and is not for what a pad does.
 //!
 //! `Directory` is a `DirPort` over any keeper. What a call answers stands with the directory's machine.
 #![tactic(auto)]
@@ -17,6 +17,7 @@ mod directory;
 #[cfg(test)]
 mod held;
 mod named;
+mod pad_machine;
 mod pad_over;
 mod pads;
 mod pass_bad;

@@ -8,6 +8,7 @@ use crate::toy::{Toy, ToyBad, ToyEntry};
 use crate::{Hall, PadPass, Pads, PassBad};
 use ep_disk_mem::{MemDisk, MemFile, MemShelf};
 use ep_outside::{Failed, Limits};
+use ep_pad::{PadBad, PadEntry, PadMachine, PadReply};
 use ep_units::{PadId, Units};
 use std::alloc::Global;
 use std::sync::atomic::Ordering;
@@ -143,6 +144,41 @@ fn two_pads_at_once(rt: HostRuntime) -> Result<(), Fail> {
     assert!(&rt;
         !gate.late.load(Ordering::SeqCst),
         "pad A's sync waited too long"
+    );
+    Ok(())
+}
+
+/// A pad on its file is made through one pass, and read through the next.
+#[test]
+fn a_pad_on_its_file(rt: HostRuntime) -> Result<(), Fail> {
+    let alloc = rt.alloc();
+    let shelf = MemShelf::new(alloc, Vec::new(alloc), Vec::new(alloc))?;
+    let pads: Pads<MemShelf, PadMachine<MemDisk>> = Pads::open(alloc, shelf, LIMITS)?;
+    let mut hall = pads.hall(&rt);
+    let (Ok(mut one), Ok(mut two)) = (
+        pads.pass(&rt, &mut hall, &id(alloc, "p")?),
+        pads.pass(&rt, &mut hall, &id(alloc, "p")?),
+    ) else {
+        panic!(&rt; "no passes")
+    };
+    let text = Units::from_str(alloc, "ab")?;
+    assert!(&rt;
+        matches!(
+            one.call(&rt, PadEntry::Create { text, now: 1 }),
+            PadReply::Birth(Ok(1))
+        )
+    );
+    assert!(&rt;
+        matches!(
+            two.call(&rt, PadEntry::Delete { now: 2 }),
+            PadReply::Done(Ok(()))
+        )
+    );
+    assert!(&rt;
+        matches!(
+            one.call(&rt, PadEntry::Status),
+            PadReply::Status(Err(PadBad::Gone))
+        )
     );
     Ok(())
 }
