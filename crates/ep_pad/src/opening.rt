@@ -5,10 +5,10 @@ ghost use Rattle.ep_history.specs.Machine.{MachineState, IsFirst, IsKeptState};
 ghost use Rattle.ep_history.specs.Records.{AreLegal, told};
 ghost use Rattle.ep_history.specs.declared.record.Record.{Record};
 ghost use Rattle.ep_journal.specs.File.{mended};
-ghost use Rattle.ep_outside.specs.Disk.{Contents, KeepsMarks};
+ghost use Rattle.ep_outside.specs.Disk.{Contents, IsImage, KeepsMarks};
 ghost use Rattle.ep_outside.specs.Crash.{IsAsked, image_at};
 ghost use Rattle.ep_pad_file.specs.PadFile.{disk_of, limit_of, IsReady as IsFileReady};
-ghost use Rattle.ep_pad_file.specs.Standing.{Holds, MayHold, StandsFor};
+ghost use Rattle.ep_pad_file.specs.Standing.{Holds, IsOldOrMore, MayHold, StandsFor};
 ghost use Rattle.ep_pad_state.specs.Held.{IsPad};
 ghost use Rattle.ep_pad.specs.Histories.{HasMade};
 ghost use Rattle.ep_pad.specs.Standing.{opening, Stands};
@@ -122,6 +122,15 @@ impl<D: Disk> PadMachine<D> {
                 why,
             }),
         }
+    }
+
+    /// What was answered stays: whatever a crash leaves now stands for the records, or where the machine is closed for these
+    /// and the pending one.
+    pub fn survives(&self)
+        ensures { (st : MachineState) → Stands D.told D.failures self.now st → (image : List ℕ) → IsImage (D.told self.now.disk) image
+            → IsOldOrMore st.records st.pending image }
+    {
+        let _file = &self.file;
     }
 
     /// The number of the opening.
