@@ -49,11 +49,12 @@ one-read limits file pad new i r b below a enc next goes =
     }
 
 -- a record that can't come next, of which there is but one with its bytes
-pub bad-next : (limits : Limits) (file : List ℕ) (pad new : Pad) (i k : ℕ) (r : Record) (b : Bool) → AreRead limits file pad i
+pub bad-next : (limits : Limits) (file : List ℕ) (pad new : Pad) (i k : ℕ) (r : Record) (b : Bool) → i < length (records_of file) → AreRead limits file pad i
     → IsEncoding (get_or (records_of file) i []) r → ((p : PadState) → IsPad pad p → IsReread p r new b) → b ≡ false → i ≡ k → IsBadAt limits file k
-bad-next limits file pad new i k r b a enc next stops is = subst (IsBadAt limits file) is record {
+bad-next limits file pad new i k r b below a enc next stops is = subst (IsBadAt limits file) is record {
   front = a.front;
   are = a.are;
+  below = below;
   bad = λ q other n.
       let h = subst (IsReread (told limits a.front) r new) stops (next (told limits a.front) a.tells) in
       let same = sym (record_in_bytes (get_or (records_of file) i []) q other) ∙ record_in_bytes (get_or (records_of file) i []) r enc in
@@ -61,10 +62,11 @@ bad-next limits file pad new i k r b a enc next stops is = subst (IsBadAt limits
 }
 
 -- bytes that are no record
-pub bad-bytes : (limits : Limits) (c : Contents) (pad : Pad) (i k : ℕ) (t : Option Contents) → AreRead limits c.seen pad i → t ≡ Some c → IsNoRecord t i → k ≡ i → IsBadAt limits c.seen k
-bad-bytes limits c pad i k t a is none same = subst (IsBadAt limits c.seen) (sym same) record {
+pub bad-bytes : (limits : Limits) (c : Contents) (pad : Pad) (i k : ℕ) (t : Option Contents) → i < length (records_of c.seen) → AreRead limits c.seen pad i → t ≡ Some c → IsNoRecord t i → k ≡ i → IsBadAt limits c.seen k
+bad-bytes limits c pad i k t below a is none same = subst (IsBadAt limits c.seen) (sym same) record {
   front = a.front;
   are = a.are;
+  below = below;
   bad = λ q enc n. subst (λ o. IsNoRecord o i) is none q enc;
 }
 

@@ -1,5 +1,5 @@
 -- What opening a machine comes to.
-use Rattle.std.specs.Prelude.{◌≡◌, ◌⊎◌, ℕ, ◌-◌, ◌^◌, ◌<◌, ◌≤◌, Bool, true, false, List, [], ◌∷◌, ◌++◌, map, take, get_or, Option, Some, None, Err}
+use Rattle.std.specs.Prelude.{◌≡◌, ◌⊎◌, ℕ, ◌-◌, ◌^◌, ◌<◌, ◌≤◌, Bool, true, false, List, [], ◌∷◌, ◌++◌, length, map, take, get_or, Option, Some, None, Err}
 use Rattle.std.specs.List.{AllByRecursion}
 use Rattle.ep_outside.specs.Disk.{Contents}
 use Rattle.ep_outside.specs.declared.limits.Limits.{Limits}
@@ -59,6 +59,7 @@ pub record IsFront (limits : Limits) (file : List ℕ) (rs : List Record) (n : �
 pub record IsBadAt (limits : Limits) (file : List ℕ) (k : ℕ) : Type 0 where
   pub front : List Record
   pub are : IsFront limits file front k
+  pub below : k < length (records_of file)
   pub bad : (r : Record) → IsEncoding (get_or (records_of file) k []) r → IsNext (told limits front) r → ⊥
 
 -- a file whose records are a legal list

@@ -5,7 +5,7 @@ ghost use Rattle.ep_history.specs.Machine.{MachineState, IsFirst, IsKeptState};
 ghost use Rattle.ep_history.specs.Records.{AreLegal, told};
 ghost use Rattle.ep_history.specs.declared.record.Record.{Record};
 ghost use Rattle.ep_journal.specs.File.{mended};
-ghost use Rattle.ep_outside.specs.Disk.{Contents, IsImage, KeepsMarks};
+ghost use Rattle.ep_outside.specs.Disk.{Contents, IsImage, KeepsMarks, settled};
 ghost use Rattle.ep_outside.specs.Crash.{IsAsked, image_at};
 ghost use Rattle.ep_pad_file.specs.PadFile.{disk_of, limit_of, IsReady as IsFileReady};
 ghost use Rattle.ep_pad_file.specs.Standing.{Holds, IsOldOrMore, MayHold, StandsFor};
@@ -57,6 +57,7 @@ fn begin<D: Disk>(alloc: Global, file: &mut PadFile<D>, limits: Limits) -> Resul
     ensures refused { IfErr result (BeginRefused (D.failures (disk_of file.old)) (D.failures (disk_of file.new))) }
     ensures found { (c : Contents) → D.told (disk_of file.old) ≡ Some c → IfOk result (λ _. IsLegalFile limits c.seen) }
     ensures bad { (c : Contents) (k : ℕ) → D.told (disk_of file.old) ≡ Some c → IfErr result (λ why. why ≡ PadBad.BadRecord k → IsBadAt limits c.seen k) }
+    ensures alone { (k : ℕ) → IfErr result (λ why. why ≡ PadBad.BadRecord k → D.told (disk_of file.new) ≡ D.told (disk_of file.old)) }
     ensures ready { OnOk result (IsFileReady D.told file.new) }
     ensures limit { limit_of file.new ≡ limit_of file.old }
     ensures marks { KeepsMarks D.is_steady D.stops_alone D.left (disk_of file.old) (disk_of file.new) }
@@ -100,6 +101,10 @@ impl<D: Disk> PadMachine<D> {
         // Where a disk tells, its records are such a list; and else the refusal says which is the first that can't come there.
         ensures found { (c : Contents) → D.told disk ≡ Some c → IfOk result (λ _. IsLegalFile limits (mended c.seen)) }
         ensures bad { (c : Contents) (k : ℕ) → D.told disk ≡ Some c → IfErr result (λ refused. refused.why ≡ PadBad.BadRecord k → IsBadAt limits (mended c.seen) k) }
+        // Neither then nor where the file is no journal is anything of it lost.
+        ensures untouched { (c : Contents) → D.told disk ≡ Some c → IfErr result (λ refused. refused.why ≡ PadBad.Foreign → D.told refused.back ≡ Some (settled c.seen)) }
+        ensures alone { (c : Contents) (k : ℕ) → D.told disk ≡ Some c
+            → IfErr result (λ refused. refused.why ≡ PadBad.BadRecord k → D.told refused.back ≡ Some (settled (mended c.seen))) }
         // A disk that was left while a record was being appended, or none.
         ensures opens { (rs pending : List Record) → MayHold (D.told disk) rs pending → AreLegal limits (rs ++ pending)
             → IfOk result (λ m. (n : ℕ) × (D.failures disk ≤ n) × ((mid : MachineState) × IsWoken (found limits rs pending n) mid × Stands D.told D.failures m mid)) }

@@ -55,11 +55,11 @@ returns-in_err-record-clause-bad g c k n is =
     let refused = c.in_err-record.ensures.refused in
     rw (p.1, p.2) (λ bad.
     let why = subst (ReadRefused _ _ _ _ _ _ _) bad refused in
-    bad-bytes c.args.limits k _ c.loop-i.i n _ (c.loop-i.invariant.6 k is) (c.loop-i.invariant.2 ∙ is) why.1 why.0)
+    bad-bytes c.args.limits k _ c.loop-i.i n _ (below-count k c.loop-i.i _ _ _ _ is c.requires.held c.count-i-end.ensures.value c.loop-i-test.true) (c.loop-i.invariant.6 k is) (c.loop-i.invariant.2 ∙ is) why.1 why.0)
 
 pub returns-then-not-branch-clause-bad : goal.returns-then-not-branch-clause-bad
 returns-then-not-branch-clause-bad g c k n is bad =
-    bad-next c.args.limits k.seen _ _ c.loop-i.i n _ _ (c.loop-i.invariant.6 k is) (record-at k c.loop-i.i _ _ (c.loop-i.invariant.2 ∙ is) c.in_ok-record.ensures.value)
+    bad-next c.args.limits k.seen _ _ c.loop-i.i n _ _ (below-count k c.loop-i.i _ _ _ _ is c.requires.held c.count-i-end.ensures.value c.loop-i-test.true) (c.loop-i.invariant.6 k is) (record-at k c.loop-i.i _ _ (c.loop-i.invariant.2 ∙ is) c.in_ok-record.ensures.value)
     c.in_ok-next.ensures (let no = c.if-not-branch.true in cc) (cc)
 
 pub returns-clause-found : goal.returns-clause-found

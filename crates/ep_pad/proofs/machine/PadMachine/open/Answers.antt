@@ -1,10 +1,11 @@
-use Rattle.std.proofs.Common.{◌≡◌, ◌≤◌, sym, ap, subst, refl, arith}
+use Rattle.std.proofs.Common.{◌≡◌, ◌∙◌, ◌≤◌, sym, ap, subst, refl, arith}
 use Rattle.ep_outside.specs.Disk.{settled as settled_at}
 use Rattle.ep_journal.specs.File.{mended}
 use Rattle.ep_history.specs.Machine.{settled}
 use Rattle.ep_pad_file.specs.PadFile.{disk_of}
 use Rattle.ep_pad_file.specs.Standing.{Holds, MayHold}
-use Rattle.ep_pad.specs.Opening.{found, OpenRefused}
+use Rattle.ep_pad.specs.Opening.{found, BeginRefused, OpenRefused}
+use Rattle.ep_pad_file.specs.Refusals as file
 use Rattle.ep_pad.proofs.Causes.{begin-refused, file-refused, open-fault}
 use Rattle.ep_pad.proofs.Found.{found-legal, found-shut, found-told}
 use Rattle.ep_pad.proofs.Waking.{first, unbegun, unread, was-kept, woken}
@@ -65,3 +66,12 @@ returns-in-Ok-begin-clause-begun g c tell =
     let held = subst (λ o. Holds o l.0) (sym t.1) l.1 in
     let f = first g.D.Disk.told g.D.Device.failures c.args.limits l.0 _ _ l.2 refl refl (c.in-Ok-begin.ensures.begins l.0 held l.2) in
     (f.0, f.0, f.1, refl, f.3)
+
+pub returns-in-Err-clause-alone : goal.returns-in-Err-clause-alone
+returns-in-Err-clause-alone g c k n is bad = absurd (subst (file.OpenRefused _ _ _ _) bad c.in-Err.ensures.refused)
+
+pub returns-in-Err-begin-clause-untouched : goal.returns-in-Err-begin-clause-untouched
+returns-in-Err-begin-clause-untouched g c k is foreign = absurd (subst (BeginRefused _ _) foreign c.in-Err-begin.ensures.refused)
+
+pub returns-in-Err-begin-clause-alone : goal.returns-in-Err-begin-clause-alone
+returns-in-Err-begin-clause-alone g c k n is bad = ap g.D.Disk.told c.into_disk.ensures ∙ c.in-Err-begin.ensures.alone n bad ∙ c.in-Ok.ensures.file k is

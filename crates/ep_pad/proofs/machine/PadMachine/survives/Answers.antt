@@ -13,4 +13,4 @@ returns g c st stands image is =
     let left = (stops g.D.Disk.told g.D.Device.failures st _ s (λ on h. holds_settled _ _ _ _ (c.self.invariant.0 on).held h)).1 in
     let t = left_tells _ st.records st.pending left in
     left_stands st.records st.pending image (image_left _ t.0 st.records st.pending t.1 t.2 image
-        (subst (λ (m : Held g.row.D.Denot). IsImage (g.D.Disk.told m.disk) image) (sym c.self.view_is) is))
+    (subst (λ (m : Held g.row.D.Denot). IsImage (g.D.Disk.told m.disk) image) (sym c.self.view_is) is))
