@@ -1,5 +1,5 @@
 -- Why a machine does not begin, and what it is then.
-use Rattle.std.proofs.Common.{◌≡◌, ◌⊎◌, inl, inr, ℕ, ◌≤◌, List, [], ◌∷◌, Option, Some, None, refl, sym, ap, ◌∙◌, subst, arith}
+use Rattle.std.proofs.Common.{◌≡◌, ◌⊎◌, inl, inr, ℕ, ◌≤◌, List, [], ◌∷◌, Option, Some, None, sym, ◌∙◌, subst, arith}
 use Rattle.ep_outside.specs.Disk.{Contents}
 use Rattle.ep_outside.specs.declared.limits.Limits.{Limits}
 use Rattle.ep_history.specs.Records.{told}

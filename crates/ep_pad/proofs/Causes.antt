@@ -1,5 +1,5 @@
 -- Why the file of a machine refuses.
-use Rattle.std.proofs.Common.{◌≡◌, ◌⊎◌, inl, inr, ℕ, ◌+◌, ◌-◌, ◌^◌, ◌<◌, ◌≤◌, Bool, true, false, nat_lt, [], ◌∷◌, Option, Some, refl, sym, subst}
+use Rattle.std.proofs.Common.{◌≡◌, ◌⊎◌, inl, inr, ℕ, ◌+◌, ◌≤◌, Bool, true, false, nat_lt, [], ◌∷◌, Option, Some, refl, sym, subst}
 use Rattle.ep_outside.specs.Disk.{Contents}
 use Rattle.ep_history.specs.Machine.{most_bytes}
 use Rattle.ep_history.specs.Refusals.{first_fault, fault_if}

@@ -1,9 +1,9 @@
 -- A file's records, read one after another.
-use Rattle.std.proofs.Common.{◌≡◌, ℕ, ◌+◌, ◌<◌, Bool, true, false, List, [], ◌∷◌, ◌++◌, length, map, take, get_or, Option, Some, None, refl, sym, ap, ◌∙◌, subst, arith}
+use Rattle.std.proofs.Common.{◌≡◌, ℕ, ◌+◌, ◌<◌, Bool, true, false, List, [], ◌∷◌, ◌++◌, length, get_or, Option, Some, refl, sym, ap, ◌∙◌, subst, arith}
 use Rattle.std.proofs.lemmas.List.{map-append, take_all, take_more}
 use Rattle.ep_outside.specs.Disk.{Contents}
 use Rattle.ep_outside.specs.declared.limits.Limits.{Limits}
-use Rattle.ep_journal.specs.File.{records_of, header}
+use Rattle.ep_journal.specs.File.{records_of}
 use Rattle.ep_journal.specs.Held as held
 use Rattle.ep_journal.proofs.Append.{stands}
 use Rattle.ep_journal.proofs.Keeping.{counted}

@@ -1,12 +1,12 @@
 -- A history goes on.
-use Rattle.std.proofs.Common.{◌≡◌, ℕ, List, [], ◌∷◌, ◌++◌, map, Option, refl, sym, subst}
+use Rattle.std.proofs.Common.{ℕ, List, [], ◌∷◌, ◌++◌, Option, refl, sym, subst}
 use Rattle.std.proofs.lemmas.List.{map-append}
 use Rattle.ep_outside.specs.Disk.{Contents}
-use Rattle.ep_history.specs.Machine.{MachineState, Call, Size, IsFirst, IsStep, Runs}
+use Rattle.ep_history.specs.Machine.{MachineState, Call, Size, IsStep, Runs}
 use Rattle.ep_history.proofs.Steps.{first-kept, runs-kept}
 use Rattle.ep_pad_file.specs.Standing.{size}
 use Rattle.ep_pad.specs.Held.{Held}
-use Rattle.ep_pad.specs.Standing.{Makes, Stands}
+use Rattle.ep_pad.specs.Standing.{Makes}
 use Rattle.ep_pad.specs.Entries.{entry_of, reply_of}
 use Rattle.ep_pad.specs.Histories.{HasMade, calls_of}
 use Rattle.ep_pad.specs.declared.entries.PadEntry.{PadEntry}

@@ -1,5 +1,5 @@
 -- A record that is kept or not, and the machine's state then.
-use Rattle.std.proofs.Common.{◌≡◌, ◌⊎◌, inl, inr, ℕ, ◌≤◌, true, false, true≢false, List, [], ◌∷◌, ◌++◌, Option, Some, None, refl, sym, ap, ◌∙◌, subst, arith}
+use Rattle.std.proofs.Common.{◌≡◌, ◌⊎◌, inl, inr, ℕ, ◌≤◌, true, false, true≢false, List, [], ◌∷◌, ◌++◌, Option, Some, None, refl, sym, ◌∙◌, subst, arith}
 use Rattle.ep_outside.specs.Disk.{Contents}
 use Rattle.ep_history.specs.Pad.{PadState}
 use Rattle.ep_history.specs.Machine.{MachineState, closed, journal_fault}

@@ -1,5 +1,5 @@
 -- Records that are read back in their order.
-use Rattle.std.proofs.Common.{◌≡◌, ℕ, zero, suc, ◌+◌, Bool, true, false, List, [], ◌∷◌, ◌++◌, take, Option, Some, None, refl, ap, ◌∙◌, subst, arith}
+use Rattle.std.proofs.Common.{◌≡◌, ℕ, zero, suc, ◌+◌, Bool, true, false, List, [], ◌∷◌, take, Option, Some, refl, ap, ◌∙◌, subst, arith}
 use Rattle.ep_outside.specs.Disk.{KeepsMarks}
 use Rattle.ep_history.specs.Lists.{at}
 use Rattle.ep_history.specs.Pad.{PadState}

@@ -1,19 +1,18 @@
 -- A call's step of a machine, from its parts.
-use Rattle.std.proofs.Common.{◌≡◌, ◌⊎◌, inl, inr, ℕ, ◌≤◌, Bool, true, false, true≢false, List, [], ◌∷◌, ◌++◌, Option, Some, None, Ok, Err, Result, refl, sym, ap, ◌∙◌, subst, arith}
+use Rattle.std.proofs.Common.{◌≡◌, inl, inr, ℕ, true, true≢false, Option, Ok, Err, Result, refl, sym, ap, ◌∙◌, subst, arith}
 use Rattle.std.specs.Prelude.{MatchResult}
 use Rattle.ep_outside.specs.Disk.{Contents}
-use Rattle.ep_outside.specs.declared.limits.Limits.{Limits}
 use Rattle.ep_history.specs.Pad.{PadState}
-use Rattle.ep_history.specs.Records.{IsKept as AreKept, without_sessions}
-use Rattle.ep_history.specs.Entries.{Entry, Answer, Reply, Outcome, outcome, is_recordable}
-use Rattle.ep_history.specs.Entries.Outcome.{Refuses, Answers, Records}
-use Rattle.ep_history.specs.Machine.{MachineState, IsKeptState, IsOpenStep, IsStep, IsStepAs, IsThen, reopening, settled}
+use Rattle.ep_history.specs.Records.{IsKept as AreKept}
+use Rattle.ep_history.specs.Entries.{Entry, Answer, Reply, outcome, is_recordable}
+use Rattle.ep_history.specs.Entries.Outcome.{Answers, Records}
+use Rattle.ep_history.specs.Machine.{MachineState, IsKeptState, IsOpenStep, IsStep, IsStepAs, settled}
 use Rattle.ep_history.specs.Machine.IsOpenStep.{Lacks}
 use Rattle.ep_history.specs.declared.pad_bad.PadBad.{PadBad}
 use Rattle.ep_history.specs.declared.record.Record.{Record}
 use Rattle.ep_history.proofs.Steps.{IsGoodOutcome, outcome-good, reopening-kept, settled-kept}
 use Rattle.ep_pad_file.specs.Standing.{size}
-use Rattle.ep_pad_state.specs.Answering.{IsRefused, Reads, Changes, Readies}
+use Rattle.ep_pad_state.specs.Answering.{IsRefused, Reads, Changes}
 use Rattle.ep_pad_state.specs.Held.{IsPad}
 use Rattle.ep_pad_state.specs.Making.{after}
 use Rattle.ep_pad_state.specs.declared.change.PadChange.{PadChange}

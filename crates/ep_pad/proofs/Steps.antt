@@ -1,13 +1,12 @@
 -- A call's step of a machine, from its parts.
-use Rattle.std.proofs.Common.{◌≡◌, ◌⊎◌, inl, inr, ℕ, ◌≤◌, Bool, true, false, List, [], ◌∷◌, ◌++◌, Option, Some, None, Ok, Err, Result, refl, sym, ap, ◌∙◌, subst, arith}
-use Rattle.ep_history.specs.Entries.{Entry, Answer, Outcome, Reply, outcome, is_recordable}
+use Rattle.std.proofs.Common.{◌≡◌, inl, inr, ℕ, ◌≤◌, Bool, true, false, Option, Some, None, refl, sym, ap, ◌∙◌, subst, arith}
+use Rattle.ep_history.specs.Entries.{Entry, Outcome, Reply, outcome, is_recordable}
 use Rattle.ep_history.specs.Entries.Outcome.{Refuses, Answers, Records}
 use Rattle.ep_history.specs.Machine.{MachineState, Size, Turn, IsOpenStep, IsStep, IsStepAs, IsThen, HasRisen, closed, journal_fault, keeping, open_record, reopening, settled, turn, turn_of}
 use Rattle.ep_history.specs.Machine.IsOpenStep.{Does, Lacks, Fails}
 use Rattle.ep_history.specs.Machine.IsFoundStep.{Opens}
 use Rattle.ep_history.specs.Machine.IsClosedStep.{Finds}
 use Rattle.ep_history.specs.declared.pad_bad.PadBad.{PadBad}
-use Rattle.ep_history.specs.declared.record.Record.{Record}
 
 -- ---- the count of faults
 

@@ -1,10 +1,10 @@
 -- What an open machine does at an entry, by what the entry comes to.
-use Rattle.std.proofs.Common.{◌≡◌, ℕ, Bool, true, false, List, [], ◌∷◌, ◌++◌, Option, Some, None, Ok, Err, refl, sym, ap, ◌∙◌, subst}
+use Rattle.std.proofs.Common.{◌≡◌, ℕ, true, [], ◌∷◌, ◌++◌, Option, Some, None, Ok, Err, refl, sym, ap, ◌∙◌, subst}
 use Rattle.ep_history.specs.Pad.{PadState}
 use Rattle.ep_history.specs.Entries.{Entry, Answer, Outcome, Reply, outcome, is_recordable}
 use Rattle.ep_history.specs.Entries.Outcome.{Refuses, Answers, Records}
 use Rattle.ep_history.specs.Machine.{MachineState, Size, Turn, IsOpenStep, IsThen, HasRisen, closed, journal_fault, keeping, refusing, turn, turn_of}
-use Rattle.ep_history.specs.Machine.IsOpenStep.{Does, Lacks, Fails}
+use Rattle.ep_history.specs.Machine.IsOpenStep.{Does, Fails}
 use Rattle.ep_history.specs.declared.pad_bad.PadBad.{PadBad}
 use Rattle.ep_history.specs.declared.pad_bad.PadBad.TheVariants.{Store}
 use Rattle.ep_history.specs.declared.record.Record.{Record}

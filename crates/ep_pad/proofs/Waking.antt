@@ -1,24 +1,22 @@
 -- What opening a closed machine comes to.
-use Rattle.std.proofs.Common.{◌≡◌, ◌⊎◌, inl, inr, ℕ, suc, ◌+◌, ◌-◌, ◌^◌, ◌<◌, ◌≤◌, Bool, true, false, true≢false, List, [], ◌∷◌, ◌++◌, Option, Some, None, Ok, Err, refl, sym, ap, ◌∙◌, subst, arith}
+use Rattle.std.proofs.Common.{◌≡◌, ◌⊎◌, inl, inr, ℕ, ◌-◌, ◌^◌, ◌<◌, ◌≤◌, Bool, true, false, true≢false, List, [], ◌∷◌, ◌++◌, Option, Some, None, Err, refl, sym, ap, ◌∙◌, subst, arith}
 use Rattle.ep_outside.specs.Disk.{Contents}
 use Rattle.ep_outside.specs.declared.limits.Limits.{Limits}
-use Rattle.ep_history.specs.Pad.{PadState, reopened}
+use Rattle.ep_history.specs.Pad.{reopened}
 use Rattle.ep_history.specs.Records.{AreLegal, told, unopened, without_sessions}
 use Rattle.ep_history.specs.Entries.{Entry}
 use Rattle.ep_history.specs.Machine.{MachineState, IsFirst, IsKeptState, IsClosedStep, closed, journal_fault, open_record, reopening, settled}
 use Rattle.ep_history.specs.Machine.IsClosedStep.{Finds, LacksOpening, FailsOpening}
 use Rattle.ep_history.specs.Machine.IsFoundStep.{IsFull as FullOpening, FailsOpened}
 use Rattle.ep_history.specs.declared.pad_bad.PadBad.{PadBad}
-use Rattle.ep_history.specs.declared.pad_bad.PadBad.TheVariants.{NoMemory, Store}
 use Rattle.ep_history.specs.declared.record.Record.{Record}
-use Rattle.ep_history.specs.declared.record.Record.TheVariants as record_of
 use Rattle.ep_history.proofs.Recorded.{next-more, told-more}
 use Rattle.ep_history.proofs.Steps.{settled-kept, told-limits}
 use Rattle.ep_pad_file.specs.Standing.{size, Holds, MayHold}
 use Rattle.ep_pad_state.specs.Held.{IsPad}
 use Rattle.ep_pad.specs.Held.{Held}
 use Rattle.ep_pad.specs.Standing.{opening, Stands}
-use Rattle.ep_pad.specs.Opening.{HasRisenTo, IsReadFault, OpensWith, Begins, BeginsNot, IsCause, IsWoken, Sleeps, stopped}
+use Rattle.ep_pad.specs.Opening.{IsReadFault, OpensWith, Begins, BeginsNot, IsCause, IsWoken, Sleeps, stopped}
 use Rattle.ep_pad.specs.Opening.IsReadFault.{Wants, Faults}
 use Rattle.ep_pad.specs.Opening.IsCause.{IsUnread, IsFull, FailsAt}
 use Rattle.ep_pad.specs.Opening.IsWoken.{Opened}

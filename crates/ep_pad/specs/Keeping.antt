@@ -1,5 +1,5 @@
 -- What keeping a record comes to.
-use Rattle.std.specs.Prelude.{◌≡◌, ℕ, List, [], ◌∷◌, ◌++◌, Option, Some, None}
+use Rattle.std.specs.Prelude.{◌≡◌, ℕ, [], ◌∷◌, ◌++◌, Some, None}
 use Rattle.ep_history.specs.Pad.{PadState}
 use Rattle.ep_history.specs.Machine.{MachineState, IsThen, HasRisen, closed, journal_fault}
 use Rattle.ep_history.specs.declared.pad_bad.PadBad.{PadBad}

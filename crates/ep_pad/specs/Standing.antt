@@ -1,9 +1,7 @@
 -- For which states of the rules' machine a machine in code stands, and what its calls are there.
-use Rattle.std.specs.Prelude.{◌≡◌, ◌⊎◌, ℕ, suc, ◌-◌, ◌^◌, ◌<◌, ◌≤◌, Bool, true, false, List, [], ◌∷◌, ◌++◌, Option, Some, None, Result, Ok, Err}
+use Rattle.std.specs.Prelude.{◌≡◌, ℕ, suc, true, false, [], Option, Result, Ok, Err}
 use Rattle.ep_outside.specs.Disk.{Contents}
-use Rattle.ep_outside.specs.declared.limits.Limits.{Limits}
 use Rattle.ep_history.specs.Pad.{PadState}
-use Rattle.ep_history.specs.Records.{told}
 use Rattle.ep_history.specs.Entries.{Entry, Answer, Reply}
 use Rattle.ep_history.specs.Machine.{MachineState, IsKeptState, IsStep}
 use Rattle.ep_history.specs.declared.pad_bad.PadBad.{PadBad}

@@ -1,4 +1,4 @@
-use Rattle.std.proofs.Common.{◌≡◌, ◌∙◌, ◌≤◌, sym, ap, subst, refl, arith}
+use Rattle.std.proofs.Common.{◌∙◌, sym, ap, subst, refl, arith}
 use Rattle.ep_outside.specs.Disk.{settled as settled_at}
 use Rattle.ep_journal.specs.File.{mended}
 use Rattle.ep_history.specs.Machine.{settled}

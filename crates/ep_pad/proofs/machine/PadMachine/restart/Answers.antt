@@ -1,6 +1,6 @@
-use Rattle.std.proofs.Common.{◌≡◌, None, sym, subst, refl}
+use Rattle.std.proofs.Common.{None, sym, subst, refl}
 use Rattle.std.proofs.lemmas.Result.{err_from_is_err_and}
-use Rattle.ep_history.specs.Machine.{MachineState, IsKeptState, settled}
+use Rattle.ep_history.specs.Machine.{settled}
 use Rattle.ep_pad_file.proofs.Telling.{holds_settled}
 use Rattle.ep_pad.specs.Opening.{stopped}
 use Rattle.ep_pad.specs.Standing.{Stands}
