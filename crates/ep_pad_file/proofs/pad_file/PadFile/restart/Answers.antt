@@ -14,9 +14,11 @@ returns-in-Ok-clause-left g c rs pending may =
     let asked = asked_left t.0 _ r.0 rs pending t.2 r.1 in
     let run = first_left g.D.Disk.moment g.D.Disk.since _ _ _ _ rs pending
     (λ image left. ⊎_elim (image_left _ t.0 rs pending t.1 t.2 image) (λ same. subst (IsLeft rs pending) (sym same) asked) left)
-    (λ image m. left_mends rs pending r.0 image asked m) r.2 in
-    (run, left_images _ rs pending (λ image left. run.each image (g.met.D.Disk.counts_now _ _ image run.later left)) (g.met.D.Disk.reads_as_left _)
-        (λ d now. synced_as_read _ d _ _ rs pending now c.in-Ok.ensures.ready.held (g.met.D.Disk.reads_as_left _) (λ image left. run.each image (g.met.D.Disk.counts_now _ _ image run.later left))))
+    (λ image m. left_mends rs pending r.0 image asked m) r.2 in (
+      run,
+      left_images _ rs pending (λ image left. run.each image (g.met.D.Disk.counts_now _ _ image run.later left)) (g.met.D.Disk.reads_as_left _)
+          (λ d now. synced_as_read _ d _ _ rs pending now c.in-Ok.ensures.ready.held (g.met.D.Disk.reads_as_left _) (λ image left. run.each image (g.met.D.Disk.counts_now _ _ image run.later left))),
+    )
 
 pub returns-in-Err-clause-left : goal.returns-in-Err-clause-left
 returns-in-Err-clause-left g c rs pending may =
