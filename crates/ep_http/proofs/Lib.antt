@@ -1,0 +1,7 @@
+pub mod Judged
+pub mod Lengths
+pub mod Lines
+pub mod Numbers
+pub mod Target
+pub mod Verdicts
+pub mod Whole

@@ -1,0 +1,9 @@
+pub mod Fields
+pub mod Heads
+pub mod Looking
+pub mod Parameters
+pub mod Pieces
+pub mod Replies
+pub mod Requests
+pub mod Taken
+pub mod Target
