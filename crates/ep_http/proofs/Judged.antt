@@ -1,13 +1,11 @@
 -- What the parser's answers say of the bytes of a head.
 use Rattle.std.proofs.Common.{◌≡◌, ◌<◌, ◌≤◌, inl, inr, ℕ, List, [], true, false, sym, ◌∙◌, subst, arith, append-nil}
 use Rattle.std.specs.Prelude.{nat_le}
-use Rattle.httparse.specs.Grammar.{HasNoRequest, NeverHasRequest, ReadsRequest}
+use Rattle.httparse.specs.Grammar.{EndsInTarget, HasNoRequest, NeverHasRequest, ReadsRequest}
 use Rattle.httparse.specs.Spans.{RequestExceeds, RequestOverflows}
 use Rattle.ep_http.specs.Heads.{HasManyLines, IsUnfinished, lines_in}
 use Rattle.ep_http.specs.Looking.{IsRefused}
-use Rattle.ep_http.specs.Target.{ends_in_target}
 use Rattle.ep_http.proofs.Lines.{exceeding_has_many}
-use Rattle.ep_http.proofs.Target.{there_walked, walked_there}
 
 as_it_is : (bytes : List ℕ) → NeverHasRequest bytes → HasNoRequest bytes
 as_it_is bytes never h rest reads = never [] h rest (subst (λ b. ReadsRequest b h rest) (sym (append-nil bytes)) reads)
@@ -26,10 +24,10 @@ overflowing bytes over exceeds = record {
 }
 
 -- nothing can make the bytes a head, and they don't end in the target
-pub cannot_begin : (bytes : List ℕ) → NeverHasRequest bytes → ends_in_target bytes ≡ false → IsRefused bytes
+pub cannot_begin : (bytes : List ℕ) → NeverHasRequest bytes → ¬ (EndsInTarget bytes) → IsRefused bytes
 cannot_begin bytes never not = record {
   none = λ h rest reads. absurd (as_it_is bytes never h rest reads);
-  why = inl (never, λ at. let bad : true ≡ false = sym (there_walked bytes at) ∙ not in cc);
+  why = inl (never, not);
 }
 
 -- nothing can make the bytes a head, and too many lines have ended
@@ -40,9 +38,9 @@ too_many_lines bytes never many = record {
 }
 
 -- they end in the target
-pub still_in_target : (bytes : List ℕ) → NeverHasRequest bytes → ends_in_target bytes ≡ true → lines_in bytes < 66 → IsUnfinished bytes
+pub still_in_target : (bytes : List ℕ) → NeverHasRequest bytes → EndsInTarget bytes → lines_in bytes < 66 → IsUnfinished bytes
 still_in_target bytes never at few = record {
   none = as_it_is bytes never;
-  may = inr (walked_there bytes at);
+  may = inr at;
   few = few;
 }

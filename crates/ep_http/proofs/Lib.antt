@@ -2,6 +2,6 @@ pub mod Judged
 pub mod Lengths
 pub mod Lines
 pub mod Numbers
-pub mod Target
+pub mod TargetLines
 pub mod Verdicts
 pub mod Whole

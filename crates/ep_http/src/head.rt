@@ -1,15 +1,15 @@
 //! Heads of requests.
 
 ghost use Rattle.std.specs.Prelude.{◌≡◌, ◌≤◌, ◌+◌, nat_le, [], length};
-ghost use Rattle.ep_http.specs.Target.{ends_in_target, step};
 ghost use Rattle.ep_http.specs.Heads.{behind_newlines, lines_in, most_fields};
 ghost use Rattle.ep_http.specs.Looking.{Judges, ReadsHead};
 
 use crate::bad::HttpBad;
 use crate::piece::take_piece;
+use crate::target::ends_in_target;
 use ep_outside::Source;
 use httparse::spans::{HeaderSpan, RequestSpans, parse_request};
-use httparse::{Error, Status, is_method_token, is_uri_token};
+use httparse::{Error, Status};
 
 /// The most bytes of a head.
 pub const MOST_BYTES: usize = 16_384;
@@ -41,65 +41,6 @@ fn has_many_lines(bytes: &[u8]) -> bool
     ensures { result ≡ nat_le (most_fields + 2) (lines_in bytes.now) }
 {
     lines_in(bytes) >= MOST_FIELDS + 2
-}
-
-/// Where a walk over the bytes of a request stands, up to the end of its target.
-#[derive(Clone, Copy, Debug, PartialEq, Eq)]
-enum Place {
-    Start,
-    Return,
-    InMethod,
-    InTarget,
-    Elsewhere,
-}
-
-fn step(place: Place, b: u8) -> Place
-    ensures { result ≡ step place b }
-{
-    match place {
-        Place::Start => {
-            if b == b'\n' {
-                Place::Start
-            } else if b == b'\r' {
-                Place::Return
-            } else if is_method_token(b) {
-                Place::InMethod
-            } else {
-                Place::Elsewhere
-            }
-        }
-        Place::Return => if b == b'\n' {
-            Place::Start
-        } else {
-            Place::Elsewhere
-        },
-        Place::InMethod => {
-            if b == b' ' {
-                Place::InTarget
-            } else if is_method_token(b) {
-                Place::InMethod
-            } else {
-                Place::Elsewhere
-            }
-        }
-        Place::InTarget => if is_uri_token(b) {
-            Place::InTarget
-        } else {
-            Place::Elsewhere
-        },
-        Place::Elsewhere => Place::Elsewhere,
-    }
-}
-
-/// Whether the bytes end inside a request's target.
-fn ends_in_target(bytes: &[u8]) -> bool
-    ensures { result ≡ ends_in_target bytes.now }
-{
-    let mut place = Place::Start;
-    for b in bytes {
-        place = step(place, *b);
-    }
-    matches!(place, Place::InTarget)
 }
 
 /// What the bytes read so far are, by the grammar and the limit on fields.

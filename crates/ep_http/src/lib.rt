@@ -14,6 +14,7 @@ mod parameters;
 mod piece;
 mod reply;
 mod request;
+mod target;
 
 pub use bad::HttpBad;
 pub use laws::bytes_come_to_one_answer;
