@@ -1,5 +1,5 @@
 -- What the parser's answers say of the bytes of a head.
-use Rattle.std.proofs.Common.{◌≡◌, ◌<◌, ◌≤◌, inl, inr, ℕ, List, [], true, false, sym, ◌∙◌, subst, arith, append-nil}
+use Rattle.std.proofs.Common.{◌≡◌, ◌<◌, ◌≤◌, inl, inr, ℕ, List, [], true, false, sym, subst, arith, append-nil}
 use Rattle.std.specs.Prelude.{nat_le}
 use Rattle.httparse.specs.Grammar.{EndsInTarget, HasNoRequest, NeverHasRequest, ReadsRequest}
 use Rattle.httparse.specs.Spans.{RequestExceeds, RequestOverflows}

@@ -1,11 +1,11 @@
 -- Bytes that end inside a request's target.
-use Rattle.std.proofs.Common.{◌≡◌, ◌≢◌, ◌<◌, ◌≤◌, ◌-◌, ℕ, List, [], ◌∷◌, ◌++◌, true, false, length, take, drop, get_or, suc, sym, ap, ◌∙◌, subst, arith, append_assoc, append-nil, length-drop}
+use Rattle.std.proofs.Common.{◌≡◌, ◌≢◌, ◌<◌, ◌≤◌, ◌-◌, ℕ, List, [], ◌∷◌, ◌++◌, true, length, take, drop, suc, sym, ap, ◌∙◌, arith, append_assoc, append-nil, length-drop}
 use Rattle.std.proofs.Math.Seq.{drop-append_seam, take-length}
 use Rattle.std.proofs.lemmas.Grind.{flat_map-append}
 use Rattle.std.proofs.lemmas.List.{get_or-take, length-take-le, take-append-drop}
 use Rattle.std.proofs.lemmas.List.Sums.{prefix_len-le-length, prefix_len_passes}
 use Rattle.std.specs.List.{prefix_len}
-use Rattle.httparse.specs.Grammar.{AllPass, EndsInTarget, IsToken, LineEnd, crlf, lf, is_token_byte, is_uri_byte, print_blank, print_end}
+use Rattle.httparse.specs.Grammar.{AllPass, EndsInTarget, LineEnd, crlf, lf, is_token_byte, is_uri_byte, print_blank, print_end}
 use Rattle.httparse.specs.Pieces.{Stops, is_newline}
 use Rattle.httparse.proofs.PieceLemmas.{newline_not_stopped, print_end_unique, space_ends_token, Stops_token}
 use Rattle.ep_http.specs.Target.{HasNoLineEnd, IsBehindEmptyLines, IsBehindLineEnd, IsInTarget}

@@ -7,7 +7,7 @@ use std::test::Fail;
 
 const LIMIT: u64 = 4_194_304;
 
-/// A connection that gives so many bytes a read, and then ends or fails.
+/// A connection that gives so many bytes a read, at least one, and then ends or fails.
 #[derive(Drop)]
 struct Caller<'a> {
     left: &'a [u8],
@@ -37,7 +37,7 @@ impl<'a> Source for Caller<'a> {
     ghost left = { λ c. Some c.left.now };
 
     fn read(&mut self, room: &mut [u8]) -> Got {
-        let n = self.left.len().min(room.len()).min(self.piece);
+        let n = self.left.len().min(room.len()).min(self.piece.max(1));
         if n > 0 {
             room[..n].copy_from_slice(&self.left[..n]);
             self.left = &self.left[n..];
