@@ -51,5 +51,6 @@ asked limit method fields =
     if bytes_eq method (codes "GET") then Ok (record { method = Get; length = 0 })
     else (if bytes_eq method (codes "POST") then within limit (body_length fields) else Err bad.Method)
 
+-- what a head asks for
 abbrev pub asked_by : ℕ → RequestHead → Result Asked HttpBad
 asked_by limit h = asked limit h.method (map name_and_value h.fields)

@@ -18,6 +18,7 @@ pub record BeginsWith (bytes : List ℕ) (h : RequestHead) (rest : List ℕ) : T
 
 -- ---- lines
 
+-- CR or LF
 abbrev pub is_newline : ℕ → Bool
 is_newline b = b == 13 || b == 10
 

@@ -23,11 +23,13 @@ pub record IsRefused (bytes : List ℕ) : Type 0 where
   pub none : HasNoHead bytes
   pub why : CanBeginNone bytes ⊎ HasManyLines bytes
 
+-- what was seen of the bytes
 abbrev pub Judges : List ℕ → List HeaderSpan → Seen → Type 0
 Judges bytes fields (Whole spans) = (h : RequestHead) × IsHeadAt bytes fields spans h
 Judges bytes fields Refused = IsRefused bytes
 Judges bytes fields Unfinished = IsUnfinished bytes
 
+-- the cause of a refusal before a head is whole
 abbrev pub FailsToReadHead : Option (List ℕ) → Option (List ℕ) → ℕ → ℕ → List ℕ → HttpBad → Type 0
 FailsToReadHead old new before now bytes bad.Head = GivesAtMost most_bytes old new bytes × HasNoneWithin bytes
 FailsToReadHead old new before now bytes bad.Short = Gives old new bytes × WantsHead bytes × IsAtEnd new
@@ -35,6 +37,7 @@ FailsToReadHead old new before now bytes (bad.Read n) = Gives old new bytes × W
 FailsToReadHead old new before now bytes bad.NoMemory = Unit {0}
 FailsToReadHead old new before now bytes _ = ⊥
 
+-- the source gave a head, or why not
 abbrev pub ReadsHead : Option (List ℕ) → Option (List ℕ) → ℕ → ℕ → List ℕ → List HeaderSpan → Result RequestSpans HttpBad → Type 0
 ReadsHead old new before now bytes fields (Ok spans) = GivesAtMost most_bytes old new bytes × ((h : RequestHead) × IsHeadAt bytes fields spans h)
 ReadsHead old new before now bytes fields (Err why) = FailsToReadHead old new before now bytes why

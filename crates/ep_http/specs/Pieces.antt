@@ -18,11 +18,13 @@ pub record AddsNone (old new : Option (List ℕ)) (bytes more : List ℕ) : Type
   pub gives : Gives old new []
   pub same : more ≡ bytes
 
+-- why nothing was added
 abbrev pub FailsToTake : Option (List ℕ) → Option (List ℕ) → ℕ → ℕ → List ℕ → List ℕ → HttpBad → Type 0
 FailsToTake old new before now bytes more (bad.Read n) = AddsNone old new bytes more × HasFailed before now n
 FailsToTake old new before now bytes more bad.NoMemory = Unit {0}
 FailsToTake old new before now bytes more _ = ⊥
 
+-- a piece was added, or the source is at its end, or it failed
 abbrev pub TakesPiece : Option (List ℕ) → Option (List ℕ) → ℕ → ℕ → List ℕ → List ℕ → ℕ → Result Bool HttpBad → Type 0
 TakesPiece old new before now bytes more most (Ok true) = Adds old new bytes more most
 TakesPiece old new before now bytes more most (Ok false) = AddsNone old new bytes more × IsAtEnd old
@@ -34,6 +36,7 @@ pub record Grows (old new : Option (List ℕ)) (bytes more : List ℕ) : Type 0 
   pub gives : Gives old new piece
   pub whole : more ≡ bytes ++ piece
 
+-- fewer bytes stand behind the start, and why
 abbrev pub FailsToRead : Option (List ℕ) → Option (List ℕ) → ℕ → ℕ → List ℕ → List ℕ → ℕ → ℕ → HttpBad → Type 0
 FailsToRead old new before now bytes more start long bad.Short = Grows old new bytes more × (length more < start + long) × IsAtEnd new
 FailsToRead old new before now bytes more start long (bad.Read n) = Grows old new bytes more × (length more < start + long) × HasFailed before now n

@@ -45,6 +45,7 @@ serve_line pads api dir (b ∷ bs) = Some (serve pads api dir (b ∷ bs))
 abbrev pub verify_line : Text → Text → Option Line
 verify_line dir workers = option_map (verify dir) (number_within 1 64 workers)
 
+-- where all three are numbers
 abbrev pub make_by : Option ℕ → Option ℕ → Option ℕ → Option Line
 make_by (Some number) (Some clients) (Some edits) = Some (make number clients edits)
 make_by _ _ _ = None

@@ -12,10 +12,11 @@ is_numeral (b ∷ bs) = all_ascii_digits (b ∷ bs)
 abbrev pub number_in : List ℕ → Option ℕ
 number_in text = if is_numeral text && nat_lt (digits_value 10 text) (2 ^ 64) then Some (digits_value 10 text) else None
 
+-- a number within these bounds
 abbrev pub between : ℕ → ℕ → Option ℕ → Option ℕ
 between least most None = None
 between least most (Some n) = if nat_le least n && nat_le n most then Some n else None
 
--- the same, where it is within these bounds
+-- the number that decimal digits say, where it is within these bounds
 abbrev pub number_within : ℕ → ℕ → List ℕ → Option ℕ
 number_within least most text = between least most (number_in text)
