@@ -1,7 +1,9 @@
+pub mod HeadLines
 pub mod Judged
 pub mod Lengths
 pub mod Lines
 pub mod Numbers
+pub mod OneSource
 pub mod TargetLines
 pub mod Verdicts
 pub mod Whole

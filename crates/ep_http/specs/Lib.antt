@@ -5,5 +5,6 @@ pub mod Parameters
 pub mod Pieces
 pub mod Replies
 pub mod Requests
+pub mod Streams
 pub mod Taken
 pub mod Target
