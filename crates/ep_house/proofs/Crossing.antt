@@ -22,7 +22,7 @@ use Rattle.ep_groups.specs.contracts.entries.DirEntry as entry
 use Rattle.ep_groups.specs.contracts.entries.DirReply as reply
 use Rattle.ep_groups.specs.contracts.entries.DirMachineMachine.TheImpl as dir_machine_machine
 use Rattle.ep_house.specs.declared.pad_over.PadOver as pad_over
-use Rattle.ep_house.specs.contracts.pass_bad.PassBad as bad
+use Rattle.ep_pad.specs.contracts.pass_bad.PassBad as bad
 use Rattle.ep_house.specs.contracts.directory.Directory as directory
 use Rattle.ep_house.specs.contracts.named.Named as named
 use Rattle.ep_house.specs.contracts.named.Waiting as waiting

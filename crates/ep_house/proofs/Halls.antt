@@ -8,10 +8,10 @@ use Rattle.ep_outside.specs.Disk.{Contents}
 use Rattle.ep_cell.specs.declared.view.Call.{Call}
 use Rattle.ep_cell.specs.History.{StartsWith, call, calls_by, longer, pairs}
 use Rattle.ep_cell.specs.Passes.{IsFresh, Known, Makes}
-use Rattle.ep_house.specs.declared.pass_bad.PassBad.{PassBad}
-use Rattle.ep_house.specs.Register.{Answer, IsLegal, cell_in, told_of, all_told}
+use Rattle.ep_pad.specs.declared.pass_bad.PassBad.{PassBad}
+use Rattle.ep_house.specs.Register.{IsLegal, all_told}
 use Rattle.ep_house.specs.Told.{told_call, told_log}
-use Rattle.ep_house.specs.Pads.{Notes}
+use Rattle.ep_pad.specs.Halls.{Answer, Notes, cell_in, told_of}
 use Rattle.ep_house.proofs.Opened.{one_cell, cell_stays}
 
 some_or : TableId → Option TableId → TableId

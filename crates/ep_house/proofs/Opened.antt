@@ -5,9 +5,10 @@ use Rattle.std.proofs.lemmas.List.{map-append}
 use Rattle.std.proofs.lemmas.Slice.Eq.{bytes_eq-Decides}
 use Rattle.atomic_table.specs.Seated.{TableId}
 use Rattle.ep_outside.specs.Disk.{Contents}
-use Rattle.ep_house.specs.declared.pass_bad.PassBad.{PassBad}
-use Rattle.ep_house.specs.declared.pass_bad.PassBad.TheVariants as bad
-use Rattle.ep_house.specs.Register.{Answer, Register, Step, IsOpen, Opens, Runs, Stands, IsLegal, found_in, cell_in, or_cell, told_of, all_told}
+use Rattle.ep_pad.specs.declared.pass_bad.PassBad.{PassBad}
+use Rattle.ep_pad.specs.declared.pass_bad.PassBad.TheVariants as bad
+use Rattle.ep_house.specs.Register.{Register, Step, IsOpen, Opens, Runs, Stands, IsLegal, found_in, all_told}
+use Rattle.ep_pad.specs.Halls.{Answer, cell_in, or_cell, told_of}
 
 abbrev or_else : Option TableId → Option TableId → Option TableId
 or_else None y = y

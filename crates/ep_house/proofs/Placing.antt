@@ -2,8 +2,9 @@
 use Rattle.std.proofs.Common.{◌≡◌, ℕ, ◌≤◌, inr, List, [], ◌∷◌, ◌++◌, sym, ap, ◌∙◌, subst, Option, Some, None, Ok, Err}
 use Rattle.atomic_table.specs.Seated.{TableId}
 use Rattle.ep_outside.specs.Disk.{Contents}
-use Rattle.ep_house.specs.declared.pass_bad.PassBad.TheVariants as bad
-use Rattle.ep_house.specs.Register.{Answer, Comes, Keeps, MayOpen, Places, Refuses, Register, Step, StaysIn, StillWaits, Waits, found_in, in_cell, on_disk, without}
+use Rattle.ep_pad.specs.declared.pass_bad.PassBad.TheVariants as bad
+use Rattle.ep_house.specs.Register.{Comes, Keeps, MayOpen, Places, Refuses, Register, Step, StaysIn, StillWaits, Waits, found_in, in_cell, on_disk, without}
+use Rattle.ep_pad.specs.Halls.{Answer}
 
 -- a disk that was opened may have any cell
 pub anywhere : {H D B : Type 0} (s t : Register H D) (name : List ℕ) (c : TableId) (d : D) (a : Answer B) → Places s name (in_cell c) a t → Places s name (on_disk d) a t

@@ -1,29 +1,15 @@
 -- What contracts see of the pads of a house, of halls and of passes of pads.
-use Rattle.std.specs.Prelude.{ℕ, ◌≡◌, ◌⊎◌, ◌<◌, List, [], ◌∷◌, ◌++◌, length, Err}
+use Rattle.std.specs.Prelude.{ℕ, ◌≡◌, List}
 use Rattle.atomic_table.specs.Seated.{TableId}
 use Rattle.ep_outside.specs.declared.limits.Limits.{Limits}
-use Rattle.ep_cell.specs.History.{Extends, call, calls_by, pairs}
 use Rattle.ep_cell.specs.Passes.{Known, id_of, home_of, number, seen, floor}
 use Rattle.ep_cell.specs.Passes as cell
-use Rattle.ep_house.specs.declared.pass_bad.PassBad.TheVariants as bad
 use Rattle.ep_house.specs.declared.pads.Pads.{Pads}
 use Rattle.ep_house.specs.declared.pads.Hall.{Hall}
 use Rattle.ep_house.specs.declared.pads.PadPass.{PadPass}
-use Rattle.ep_house.specs.Register.{Answer}
+use Rattle.ep_pad.specs.Halls.{Answer}
 use Rattle.ep_house.specs.Told.{told_log}
 use Rattle.ep_house.specs.Named.{shared_id}
-
--- A hall's call: what it has seen goes on and ends with this name and its answer, which is the one more of its own, and is legal
-pub record Notes {B : Type 0} (Legal : List (List ℕ × Answer B) → Type 0) (v : Known (List ℕ) (Answer B)) (name : List ℕ) (r : Answer B) (w : Known (List ℕ) (Answer B)) : Type 0 where
-  pub extends : Extends v.seen (call v.number name r) w.seen
-  pub own : calls_by v.number w.seen ≡ calls_by v.number v.seen ++ call v.number name r ∷ []
-  pub behind : v.floor < length w.seen
-  pub number : w.number ≡ v.number
-  pub legal : Legal (pairs w.seen)
-
--- or no memory was found before the call, and nothing changed
-abbrev pub NotesOrNone : {B : Type 0} → (List (List ℕ × Answer B) → Type 0) → Known (List ℕ) (Answer B) → List ℕ → Answer B → Known (List ℕ) (Answer B) → Type 0
-NotesOrNone Legal v name r w = Notes Legal v name r w ⊎ ((r ≡ Err bad.NoMemory) × (w ≡ v))
 
 module _ {H P D B E R : Type 0} {s : _} {t : _} {d : _} {e : _} {p : _} where
   abbrev pub limits_of : Pads H P D B E R s t d e p → Limits

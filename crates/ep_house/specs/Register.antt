@@ -4,8 +4,9 @@ use Rattle.atomic_table.specs.Seated.{TableId}
 use Rattle.ep_outside.specs.Disk.{Contents}
 use Rattle.ep_outside.specs.Outside.{HasRisen}
 use Rattle.ep_outside.specs.Shelf.{Holds}
-use Rattle.ep_house.specs.declared.pass_bad.PassBad.{PassBad}
-use Rattle.ep_house.specs.declared.pass_bad.PassBad.TheVariants as bad
+use Rattle.ep_pad.specs.declared.pass_bad.PassBad.{PassBad}
+use Rattle.ep_pad.specs.declared.pass_bad.PassBad.TheVariants as bad
+use Rattle.ep_pad.specs.Halls.{Answer, told_of}
 
 -- what waits for a name that isn't open
 pub data Waits (D : Type 0) : Type 0 where
@@ -18,10 +19,6 @@ pub record Register (H D : Type 0) : Type 0 where
   pub shelf : H
   pub cells : List (List ℕ × TableId)
   pub waiting : List (List ℕ × Waits D)
-
--- which cell, or why none
-abbrev pub Answer : Type 0 → Type 0
-Answer B = Result TableId (PassBad B)
 
 module _ {A : Type 0} where
   -- what stands under a name
@@ -138,19 +135,5 @@ module _ {H D B : Type 0} (failed : H → ℕ) (told : H → List ℕ → Option
   abbrev pub IsLegal : List (List ℕ × Answer B) → Type 0
   IsLegal h = (last : Register H D) × Stands last h
 
--- what is told of an answer, by the cell's id
-abbrev pub told_of : {C B : Type 0} → (C → TableId) → Result C (PassBad B) → Answer B
-told_of id (Ok c) = Ok (id c)
-told_of id (Err e) = Err e
-
 abbrev pub all_told : {C B : Type 0} → (C → TableId) → List (List ℕ × Result C (PassBad B)) → List (List ℕ × Answer B)
 all_told id h = map (λ c. (c.0, told_of id c.1)) h
-
-abbrev pub or_cell : {B : Type 0} → Answer B → Option TableId → Option TableId
-or_cell (Ok id) rest = Some id
-or_cell (Err e) rest = rest
-
--- the first cell that a name was answered
-abbrev pub cell_in : {B : Type 0} → List (List ℕ × Answer B) → List ℕ → Option TableId
-cell_in [] name = None
-cell_in (c ∷ cs) name = if bytes_eq name c.0 then or_cell c.1 (cell_in cs name) else cell_in cs name

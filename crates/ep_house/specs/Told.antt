@@ -2,8 +2,8 @@
 use Rattle.std.specs.Prelude.{ℕ, List, map, Result}
 use Rattle.atomic_table.specs.Seated.{TableId}
 use Rattle.ep_cell.specs.declared.view.Call.{Call}
-use Rattle.ep_house.specs.declared.pass_bad.PassBad.{PassBad}
-use Rattle.ep_house.specs.Register.{Answer, told_of}
+use Rattle.ep_pad.specs.declared.pass_bad.PassBad.{PassBad}
+use Rattle.ep_pad.specs.Halls.{Answer, told_of}
 
 module _ {C B : Type 0} (id : C → TableId) where
   abbrev pub told_call : Call (List ℕ) (Result C (PassBad B)) → Call (List ℕ) (Answer B)

@@ -20,7 +20,6 @@ mod named;
 mod pad_machine;
 mod pad_over;
 mod pads;
-mod pass_bad;
 mod passing;
 mod registry;
 mod replies;
@@ -30,8 +29,8 @@ mod tests;
 mod toy;
 
 pub use directory::{DirPass, Directory};
+pub use ep_pad::PassBad;
 pub use named::{Kept, Named, Waiting};
 pub use pad_over::PadOver;
 pub use pads::{Hall, PadPass, Pads};
-pub use pass_bad::PassBad;
 pub use registry::{Found, Registry};

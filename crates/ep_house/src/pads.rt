@@ -4,7 +4,8 @@ ghost use Rattle.std.specs.Prelude.{◌≡◌, Some};
 ghost use Rattle.std.proofs.Props.{props};
 ghost use Rattle.ep_cell.specs.History.{pairs};
 ghost use Rattle.ep_cell.specs.Passes.{home_of, seen};
-ghost use Rattle.ep_house.specs.Register.{all_told, cell_in};
+ghost use Rattle.ep_house.specs.Register.{all_told};
+ghost use Rattle.ep_pad.specs.Halls.{cell_in};
 ghost use Rattle.ep_house.specs.Named.{shared_id};
 
 use crate::pad_over::PadOver;

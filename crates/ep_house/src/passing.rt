@@ -3,15 +3,16 @@
 ghost use Rattle.std.specs.Prelude.{◌≡◌, Some, IfOk};
 ghost use Rattle.ep_cell.specs.History.{pairs};
 ghost use Rattle.ep_cell.specs.Passes.{IsFresh, Makes, Meets};
-ghost use Rattle.ep_house.specs.Register.{IsLegal, cell_in, told_of};
-ghost use Rattle.ep_house.specs.Pads.{IsHallOf, IsPassOf, IsSamePad, NotesOrNone, cell_of, hall_known, known, limits_of, name_of};
+ghost use Rattle.ep_house.specs.Register.{IsLegal};
+ghost use Rattle.ep_house.specs.Pads.{IsHallOf, IsPassOf, IsSamePad, cell_of, hall_known, known, limits_of, name_of};
+ghost use Rattle.ep_pad.specs.Halls.{NotesOrNone, cell_in, told_of};
 
 use crate::pad_over::PadOver;
 use crate::pads::{Hall, PadPass, Pads};
-use crate::pass_bad::PassBad;
 use crate::registry::Registry;
 use ep_cell::Cell;
 use ep_outside::{Limits, Shelf};
+use ep_pad::PassBad;
 use ep_units::{NoMemory, PadId};
 use std::alloc::Global;
 use std::sync::Wait;

@@ -4,9 +4,9 @@ ghost use Rattle.std.specs.Prelude.{◌≡◌, ◌≢◌, ◌≤◌, ◌<◌, �
 
 use crate::named::{Kept, Named, Waiting, find, take_kept};
 use crate::pad_over::PadOver;
-use crate::pass_bad::PassBad;
 use ep_cell::Cell;
 use ep_outside::{Limits, Machine, Refused, Shelf, ShelfBad};
+use ep_pad::PassBad;
 use ep_units::PadId;
 use std::alloc::Global;
 use std::sync::Arc;
@@ -27,7 +27,8 @@ pub type Found<P, B> = Result<Arc<Cell<P>, Global>, PassBad<B>>;
 
 impl<H: Shelf, P: PadOver<H::D>> Registry<H, P> {
     ghost use Rattle.ep_cell.specs.Passes.{id_of};
-    ghost use Rattle.ep_house.specs.Register.{Comes, Keeps, MayOpen, Places, Step, found_in, in_cell, on_disk, told_of, without};
+    ghost use Rattle.ep_house.specs.Register.{Comes, Keeps, MayOpen, Places, Step, found_in, in_cell, on_disk, without};
+    ghost use Rattle.ep_pad.specs.Halls.{told_of};
     ghost use Rattle.ep_house.specs.Named.{shared_id, wait_of};
     ghost use Rattle.ep_house.specs.Registry.{register};
 

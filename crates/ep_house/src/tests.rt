@@ -5,10 +5,10 @@ ghost use Rattle.ep_house.specs.Pads.{IsHallOf};
 
 use crate::held::{Gate, HeldDisk, HeldShelf, waits};
 use crate::toy::{Toy, ToyBad, ToyEntry};
-use crate::{Hall, PadPass, Pads, PassBad};
+use crate::{Hall, PadPass, Pads};
 use ep_disk_mem::{MemDisk, MemFile, MemShelf};
 use ep_outside::{Failed, Limits};
-use ep_pad::{PadBad, PadEntry, PadMachine, PadReply};
+use ep_pad::{PadBad, PadEntry, PadMachine, PadReply, PassBad};
 use ep_units::{PadId, Units};
 use std::alloc::Global;
 use std::sync::atomic::Ordering;

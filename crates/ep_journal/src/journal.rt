@@ -293,6 +293,7 @@ impl<D: Crash> Journal<D> {
         ensures closed { OnErr result (IsClosed self.new) }
         ensures limit { limit_of self.new ≡ limit_of self.old }
         ensures stop { D.left (disk_of self.new) ≡ None }
+        ensures steady { D.is_steady (disk_of self.old) ≡ true → D.is_steady (disk_of self.new) ≡ true }
         ensures alone { D.stops_alone (disk_of self.new) ≡ D.stops_alone (disk_of self.old) }
         ensures later { D.failures (disk_of self.old) ≤ D.failures (disk_of self.new) }
     {

@@ -1,3 +1,4 @@
+pub mod Crashing
 pub mod Steps
 pub mod Turns
 pub mod Waking
@@ -7,5 +8,6 @@ pub mod Stepping
 pub mod Beginning
 pub mod Found
 pub mod Kept
+pub mod Stopping
 pub mod Fronts
 pub mod Histories

@@ -1,5 +1,5 @@
 -- A call's step of a machine, from its parts.
-use Rattle.std.proofs.Common.{◌≡◌, inl, inr, ℕ, true, true≢false, Option, Ok, Err, Result, refl, sym, ap, ◌∙◌, subst, arith}
+use Rattle.std.proofs.Common.{◌≡◌, inl, inr, ℕ, Bool, List, true, true≢false, Option, Ok, Err, Result, refl, sym, ap, ◌∙◌, subst, arith}
 use Rattle.std.specs.Prelude.{MatchResult}
 use Rattle.ep_outside.specs.Disk.{Contents}
 use Rattle.ep_history.specs.Pad.{PadState}
@@ -19,12 +19,14 @@ use Rattle.ep_pad_state.specs.declared.change.PadChange.{PadChange}
 use Rattle.ep_pad_state.specs.declared.change.PadChange.TheVariants as made_by
 use Rattle.ep_pad_state.specs.declared.change.Ready.{Ready}
 use Rattle.ep_pad_state.specs.declared.pad.Pad.{Pad}
+use Rattle.ep_pad.specs.Crashes.{Comes}
 use Rattle.ep_pad.specs.Held.{Held}
 use Rattle.ep_pad.specs.Standing.{Stands, IsOpen, replied}
 use Rattle.ep_pad.specs.Opening.{IsWoken, Sleeps}
 use Rattle.ep_pad.specs.Opening.IsWoken.{Was, Opened}
 use Rattle.ep_pad.specs.Keeping.{IsKept, IsNotKept}
 use Rattle.ep_pad.specs.Keeping.IsNotKept.{Lacks as Wanting, IsFull, Fails}
+use Rattle.ep_pad.proofs.Crashing.{comes-on, first-kept, first-not-kept, first-woken}
 use Rattle.ep_pad.proofs.Turns.{refuses, answers, records, full, fails}
 use Rattle.ep_pad.proofs.Steps.{step-open, step-opened}
 
@@ -67,11 +69,6 @@ answer-limits p next e a good is =
     ap (λ (x : PadState). x.limits) g.0
 
 module _ {D : Type 0} (told_by : D → Option Contents) (failures : D → ℕ) where
-  -- a machine that does not open refuses
-  pub asleep : (st : MachineState) (m : Held D) (e : Entry) (bad : PadBad) → (next : MachineState) × Sleeps st bad next × Stands told_by failures m next
-      → (next : MachineState) × IsStep size st e (Err bad) next × Stands told_by failures m next
-  asleep st m e bad s = (s.0, subst (λ b. IsStepAs b size st e (Err bad) s.0) (sym s.1.0) (s.1.1 e), s.2)
-
   pub opened : (st mid : MachineState) (m : Held D) → IsWoken st mid → Stands told_by failures m mid → IsOpen told_by failures m mid
   opened st mid m w s = s.open_has (sym s.is_open ∙ woken-open st mid w)
 
@@ -91,63 +88,88 @@ module _ {D : Type 0} (told_by : D → Option Contents) (failures : D → ℕ) w
         closed_has = λ off. absurd (true≢false (sym (on_now st mid m w s) ∙ off));
       }
 
+module _ {D : Type 0} (told_by : D → Option Contents) (failures moment : D → ℕ) (since : D → ℕ → List ℕ → Type 0) (is_steady stops_alone : D → Bool) (left : D → Option ℕ) where
+  abbrev Came : Held D → MachineState → Held D → MachineState → Type 0
+  Came old st m next = Comes told_by failures moment since is_steady stops_alone left old st m next
+
+  -- a machine that does not open refuses
+  pub asleep : (st : MachineState) (old m : Held D) (e : Entry) (bad : PadBad) → (next : MachineState) × Sleeps st bad next × Came old st m next
+      → (next : MachineState) × IsStep size st e (Err bad) next × Came old st m next
+  asleep st old m e bad s = (s.0, subst (λ b. IsStepAs b size st e (Err bad) s.0) (sym s.1.0) (s.1.1 e), s.2)
+
+  -- an open machine with another pad in memory
+  pub comes-with : (st mid : MachineState) (old m : Held D) (k : Pad) (p : PadState) → IsWoken st mid → Came old st m mid → IsPad k p → p.limits ≡ mid.pad.limits
+      → Came old st (record m { pad = k }) (record mid { pad = p })
+  comes-with st mid old m k p w s is limits = (with-pad told_by failures st mid m k p w s.0 is limits, s.1, s.2)
+
   -- what is to be recorded is refused before
-  pub unready : (st mid : MachineState) (m : Held D) (k : Pad) (e : Entry) (bad : PadBad) → IsWoken st mid → Stands told_by failures m mid
-      → IsPad k mid.pad → IsRefused (outcome mid.pad e) bad → (next : MachineState) × IsStep size st e (Err bad) next × Stands told_by failures (record m { pad = k }) next
-  unready st mid m k e bad w s is why = (mid, step-woken st mid mid e (Err bad) w (refused mid e bad why), with-pad st mid m k mid.pad w s is refl)
+  pub unready : (st mid : MachineState) (old m : Held D) (k : Pad) (e : Entry) (bad : PadBad) → IsWoken st mid → Came old st m mid
+      → IsPad k mid.pad → IsRefused (outcome mid.pad e) bad → (next : MachineState) × IsStep size st e (Err bad) next × Came old st (record m { pad = k }) next
+  unready st mid old m k e bad w s is why = (mid, step-woken st mid mid e (Err bad) w (refused mid e bad why), comes-with st mid old m k mid.pad w s is refl)
 
   -- it is not recorded
-  pub unrecorded : (st mid : MachineState) (m : Held D) (e : Entry) (r : Record) (a : Answer) (pad : PadState) (bad : PadBad) → IsWoken st mid
-      → outcome mid.pad e ≡ Records r a pad → is_recordable e ≡ true → (new : MachineState) × IsNotKept mid r bad new × Stands told_by failures m new
-      → (next : MachineState) × IsStep size st e (Err bad) next × Stands told_by failures m next
-  unrecorded st mid m e r a pad bad w is can h = (h.0, step-woken st mid h.0 e (Err bad) w (go h.1), h.2)
+  unrecorded : (st mid : MachineState) (old m new : Held D) (e : Entry) (r : Record) (a : Answer) (pad : PadState) (bad : PadBad) → IsWoken st mid → Came old st m mid
+      → outcome mid.pad e ≡ Records r a pad → is_recordable e ≡ true → (next : MachineState) × IsNotKept mid r bad next × Came m mid new next
+      → (next : MachineState) × IsStep size st e (Err bad) next × Came old st new next
+  unrecorded st mid old m new e r a pad bad w s is can h = (
+    h.0,
+    step-woken st mid h.0 e (Err bad) w (go h.1),
+    let o = opened told_by failures st mid m w s.0 in
+        comes-on told_by failures moment since is_steady stops_alone left old m new st mid h.0 (first-woken st mid w) (first-not-kept mid h.0 r bad o.settled h.1) s h.2,
+  )
     where
       go : IsNotKept mid r bad h.0 → IsOpenStep size mid e (Err bad) h.0
       go (Wanting lacks t) = Lacks (ap (λ b. Err b) lacks) t
       go (IsFull f t) = full size mid e r a pad bad h.0 is can f t
       go (Fails count why fits rose t) = subst (λ (b : PadBad). IsOpenStep size mid e (Err b) h.0) (sym why) (fails size mid e r a pad count h.0 is can fits rose t)
 
-module _ {D A : Type 0} (told_by : D → Option Contents) (failures : D → ℕ) where
+module _ {D A : Type 0} (told_by : D → Option Contents) (failures moment : D → ℕ) (since : D → ℕ → List ℕ → Type 0) (is_steady stops_alone : D → Bool) (left : D → Option ℕ) where
   -- a reading
-  pub reads : (st mid : MachineState) (m : Held D) (e : Entry) (f : A → Answer) (r : Result A PadBad) → IsWoken st mid → Stands told_by failures m mid → Reads m.pad e f r
-      → (next : MachineState) × IsStep size st e (replied f r) next × Stands told_by failures m next
-  reads st mid m e f (Ok x) w s h =
-      (mid, step-woken st mid mid e (Ok (f x)) w (answers size mid e (f x) mid.pad mid (h mid.pad (opened told_by failures st mid m w s).pad) (refl, omega arith)), s)
-  reads st mid m e f (Err bad) w s h = (mid, step-woken st mid mid e (Err bad) w (refused mid e bad (h mid.pad (opened told_by failures st mid m w s).pad)), s)
+  pub reads : (st mid : MachineState) (old m : Held D) (e : Entry) (f : A → Answer) (r : Result A PadBad) → IsWoken st mid → Came told_by failures moment since is_steady stops_alone left old st m mid → Reads m.pad e f r
+      → (next : MachineState) × IsStep size st e (replied f r) next × Came told_by failures moment since is_steady stops_alone left old st m next
+  reads st mid old m e f (Ok x) w s h =
+      (mid, step-woken st mid mid e (Ok (f x)) w (answers size mid e (f x) mid.pad mid (h mid.pad (opened told_by failures st mid m w s.0).pad) (refl, omega arith)), s)
+  reads st mid old m e f (Err bad) w s h = (mid, step-woken st mid mid e (Err bad) w (refused mid e bad (h mid.pad (opened told_by failures st mid m w s.0).pad)), s)
 
   -- a change that no record tells of
-  pub changes : (st mid : MachineState) (m : Held D) (k : Pad) (e : Entry) (f : A → Answer) (r : Result A PadBad) → IsKeptState st → IsWoken st mid → Stands told_by failures m mid
-      → Changes m.pad e f r k → (next : MachineState) × IsStep size st e (replied f r) next × Stands told_by failures (record m { pad = k }) next
-  changes st mid m k e f (Ok x) kept w s h =
-      let a = h mid.pad (opened told_by failures st mid m w s).pad in
+  pub changes : (st mid : MachineState) (old m : Held D) (k : Pad) (e : Entry) (f : A → Answer) (r : Result A PadBad) → IsKeptState st → IsWoken st mid → Came told_by failures moment since is_steady stops_alone left old st m mid
+      → Changes m.pad e f r k → (next : MachineState) × IsStep size st e (replied f r) next × Came told_by failures moment since is_steady stops_alone left old st (record m { pad = k }) next
+  changes st mid old m k e f (Ok x) kept w s h =
+      let a = h mid.pad (opened told_by failures st mid m w s.0).pad in
       let good = woken-kept st mid kept w in
       let limits = answer-limits mid.pad a.0 e (f x) (outcome-good mid.pad e good.sound good.opened) a.1 in (
         record mid { pad = a.0 },
         step-woken st mid (record mid { pad = a.0 }) e (Ok (f x)) w (answers size mid e (f x) a.0 (record mid { pad = a.0 }) a.1 (refl, omega arith)),
-        with-pad told_by failures st mid m k a.0 w s a.2 limits,
+        comes-with told_by failures moment since is_steady stops_alone left st mid old m k a.0 w s a.2 limits,
       )
-  changes st mid m k e f (Err bad) kept w s h =
-      let a = h mid.pad (opened told_by failures st mid m w s).pad in
-      (mid, step-woken st mid mid e (Err bad) w (refused mid e bad a.0), with-pad told_by failures st mid m k mid.pad w s a.1 refl)
+  changes st mid old m k e f (Err bad) kept w s h =
+      let a = h mid.pad (opened told_by failures st mid m w s.0).pad in (
+        mid,
+        step-woken st mid mid e (Err bad) w (refused mid e bad a.0),
+        comes-with told_by failures moment since is_steady stops_alone left st mid old m k mid.pad w s a.1 refl,
+      )
 
   -- it is recorded
-  pub recorded : (st mid : MachineState) (m : Held D) (e : Entry) (f : A → Answer) (x : Ready A) (answer : A) → IsWoken st mid
+  recorded : (st mid : MachineState) (old m new : Held D) (e : Entry) (f : A → Answer) (x : Ready A) (answer : A) → IsWoken st mid → Came told_by failures moment since is_steady stops_alone left old st m mid
       → outcome mid.pad e ≡ Records x.record (f x.answer) (after x.change mid.pad) → is_recordable e ≡ true
-      → (answer ≡ x.answer) × ((new : MachineState) × IsKept mid x.record (after x.change mid.pad) new × Stands told_by failures m new)
-      → (next : MachineState) × IsStep size st e (Ok (f answer)) next × Stands told_by failures m next
-  recorded st mid m e f x answer w is can h =
+      → (answer ≡ x.answer) × ((next : MachineState) × IsKept mid x.record (after x.change mid.pad) next × Came told_by failures moment since is_steady stops_alone left m mid new next)
+      → (next : MachineState) × IsStep size st e (Ok (f answer)) next × Came told_by failures moment since is_steady stops_alone left old st new next
+  recorded st mid old m new e f x answer w s is can h =
       let n = h.1 in
+      let o = opened told_by failures st mid m w s.0 in
       let step = records size mid e x.record (f x.answer) (after x.change mid.pad) n.0 is can n.1.0 n.1.1 in (
         n.0,
         step-woken st mid n.0 e (Ok (f answer)) w (subst (λ (y : A). IsOpenStep size mid e (Ok (f y)) n.0) (sym h.0) step),
-        n.2,
+        comes-on told_by failures moment since is_steady stops_alone left old m new st mid n.0 (first-woken st mid w)
+            (first-kept mid n.0 x.record (after x.change mid.pad) o.settled n.1) s n.2,
       )
 
   -- it is to be recorded
-  pub keeps : (st mid : MachineState) (m : Held D) (e : Entry) (f : A → Answer) (x : Ready A) (r : Result A PadBad) → IsWoken st mid
+  pub keeps : (st mid : MachineState) (old m new : Held D) (e : Entry) (f : A → Answer) (x : Ready A) (r : Result A PadBad) → IsWoken st mid → Came told_by failures moment since is_steady stops_alone left old st m mid
       → outcome mid.pad e ≡ Records x.record (f x.answer) (after x.change mid.pad) → is_recordable e ≡ true
-      → MatchResult r (λ answer. (answer ≡ x.answer) × ((new : MachineState) × IsKept mid x.record (after x.change mid.pad) new × Stands told_by failures m new))
-      (λ bad. (new : MachineState) × IsNotKept mid x.record bad new × Stands told_by failures m new)
-      → (next : MachineState) × IsStep size st e (replied f r) next × Stands told_by failures m next
-  keeps st mid m e f x (Ok answer) w is can h = recorded st mid m e f x answer w is can h
-  keeps st mid m e f x (Err bad) w is can h = unrecorded told_by failures st mid m e x.record (f x.answer) (after x.change mid.pad) bad w is can h
+      → MatchResult r (λ answer. (answer ≡ x.answer) × ((next : MachineState) × IsKept mid x.record (after x.change mid.pad) next × Came told_by failures moment since is_steady stops_alone left m mid new next))
+      (λ bad. (next : MachineState) × IsNotKept mid x.record bad next × Came told_by failures moment since is_steady stops_alone left m mid new next)
+      → (next : MachineState) × IsStep size st e (replied f r) next × Came told_by failures moment since is_steady stops_alone left old st new next
+  keeps st mid old m new e f x (Ok answer) w s is can h = recorded st mid old m new e f x answer w s is can h
+  keeps st mid old m new e f x (Err bad) w s is can h =
+      unrecorded told_by failures moment since is_steady stops_alone left st mid old m new e x.record (f x.answer) (after x.change mid.pad) bad w s is can h

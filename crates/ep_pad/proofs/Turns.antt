@@ -10,11 +10,11 @@ use Rattle.ep_history.specs.declared.pad_bad.PadBad.TheVariants.{Store}
 use Rattle.ep_history.specs.declared.record.Record.{Record}
 
 -- a turn, where it is known what comes of the entry
-turn-of : (size : Size) (st : MachineState) (e : Entry) (o : Outcome) → outcome st.pad e ≡ o → turn size st e ≡ turn_of size st (is_recordable e) o
+pub turn-of : (size : Size) (st : MachineState) (e : Entry) (o : Outcome) → outcome st.pad e ≡ o → turn size st e ≡ turn_of size st (is_recordable e) o
 turn-of size st e o h = ap (turn_of size st (is_recordable e)) h
 
 -- and that it can be recorded
-turn-recorded : (size : Size) (st : MachineState) (e : Entry) (r : Record) (a : Answer) (pad : PadState) (f : Option PadBad)
+pub turn-recorded : (size : Size) (st : MachineState) (e : Entry) (r : Record) (a : Answer) (pad : PadState) (f : Option PadBad)
     → outcome st.pad e ≡ Records r a pad → is_recordable e ≡ true → journal_fault size st r ≡ f → turn size st e ≡ keeping st f r a pad
 turn-recorded size st e r a pad f h can j =
     turn-of size st e (Records r a pad) h

@@ -1,5 +1,5 @@
 -- What opening a closed machine comes to.
-use Rattle.std.proofs.Common.{◌≡◌, ◌⊎◌, inl, inr, ℕ, ◌-◌, ◌^◌, ◌<◌, ◌≤◌, Bool, true, false, true≢false, List, [], ◌∷◌, ◌++◌, Option, Some, None, Err, refl, sym, ap, ◌∙◌, subst, arith}
+use Rattle.std.proofs.Common.{◌≡◌, ◌⊎◌, inl, inr, ⊎_elim, ℕ, ◌-◌, ◌^◌, ◌<◌, ◌≤◌, Bool, true, false, true≢false, List, [], ◌∷◌, ◌++◌, Option, Some, None, Err, refl, sym, ap, ◌∙◌, subst, arith}
 use Rattle.ep_outside.specs.Disk.{Contents}
 use Rattle.ep_outside.specs.declared.limits.Limits.{Limits}
 use Rattle.ep_history.specs.Pad.{reopened}
@@ -12,14 +12,16 @@ use Rattle.ep_history.specs.declared.pad_bad.PadBad.{PadBad}
 use Rattle.ep_history.specs.declared.record.Record.{Record}
 use Rattle.ep_history.proofs.Recorded.{next-more, told-more}
 use Rattle.ep_history.proofs.Steps.{settled-kept, told-limits}
-use Rattle.ep_pad_file.specs.Standing.{size, Holds, MayHold}
+use Rattle.ep_pad_file.specs.Standing.{size, Holds, IsOldOrMore, MayHold}
 use Rattle.ep_pad_state.specs.Held.{IsPad}
+use Rattle.ep_pad.specs.Crashes.{MayRemain}
 use Rattle.ep_pad.specs.Held.{Held}
 use Rattle.ep_pad.specs.Standing.{opening, Stands}
-use Rattle.ep_pad.specs.Opening.{IsReadFault, OpensWith, Begins, BeginsNot, IsCause, IsWoken, Sleeps, stopped}
+use Rattle.ep_pad.specs.Opening.{appended, IsReadFault, OpensWith, Begins, BeginsNot, IsCause, IsWoken, Sleeps, stopped}
 use Rattle.ep_pad.specs.Opening.IsReadFault.{Wants, Faults}
 use Rattle.ep_pad.specs.Opening.IsCause.{IsUnread, IsFull, FailsAt}
 use Rattle.ep_pad.specs.Opening.IsWoken.{Opened}
+use Rattle.ep_pad.proofs.Crashing.{first-all, old-found, remains-found}
 use Rattle.ep_pad.proofs.Steps.{with_faults}
 
 -- ---- counts of faults
@@ -95,15 +97,17 @@ pub legal-found : (st : MachineState) (kept : Bool) (limits : Limits) → IsKept
 legal-found st kept limits k same =
     subst (λ (l : Limits). AreLegal l (settled kept st).records) (settled-limits kept st ∙ same) (settled-legal st kept k)
 
--- it did not open, and is asleep with this file
-abbrev pub StaysShut : Option Contents → Limits → ℕ → MachineState → PadBad → Type 0
-StaysShut file limits count st bad = (next : MachineState) × Sleeps st bad next × IsShut limits count next × MayHold file next.records next.pending
+-- it did not open, and is asleep with this file; what a crash left on the way may remain
+abbrev pub StaysShut : Option Contents → Limits → ℕ → (List ℕ → Type 0) → MachineState → PadBad → Type 0
+StaysShut file limits count Left st bad =
+    (next : MachineState) × Sleeps st bad next × IsShut limits count next × MayHold file next.records next.pending × ((image : List ℕ) → Left image → MayRemain st next image)
 
 -- its file did not open, or its records were not read: it is as it was, but for the count of faults
-pub unread : (file : Option Contents) (limits : Limits) (before now : ℕ) (st : MachineState) (bad : PadBad) → IsShut limits before st → before ≤ now
-    → IsReadFault before now bad → MayHold file st.records st.pending → StaysShut file limits now st bad
-unread file limits before now st bad s more fault may =
-    (with_faults st now, (s.shut, λ e. step e fault), record { shut = s.shut; limits = s.limits; faults = refl }, may)
+pub unread : (file : Option Contents) (limits : Limits) (before now : ℕ) (Left : List ℕ → Type 0) (st : MachineState) (bad : PadBad) → IsShut limits before st → before ≤ now
+    → IsReadFault before now bad → MayHold file st.records st.pending → ((image : List ℕ) → Left image → IsOldOrMore st.records st.pending image)
+    → StaysShut file limits now Left st bad
+unread file limits before now Left st bad s more fault may left =
+    (with_faults st now, (s.shut, λ e. step e fault), record { shut = s.shut; limits = s.limits; faults = refl }, may, λ image h. inl (left image h))
   where
     later : st.faults ≤ now
     later = let a = s.faults in omega (arith, a, more)
@@ -115,8 +119,9 @@ unread file limits before now st bad s more fault may =
 module _ {D : Type 0} (told_by : D → Option Contents) (failures : D → ℕ) where
   -- its file was opened, and yet the machine was not
   pub unbegun : (limits : Limits) (before : ℕ) (st : MachineState) (then new : D) (kept : Bool) (bad : PadBad) → IsTold (settled kept st) → IsShut limits before st
-      → before ≤ failures then → MayHold (told_by then) st.records st.pending → BeginsNot told_by failures limits (settled kept st).records then bad new
-      → StaysShut (told_by new) limits (failures new) st bad
+      → before ≤ failures then → MayHold (told_by then) st.records st.pending → (b : BeginsNot told_by failures limits (settled kept st).records then bad new)
+      → StaysShut (told_by new) limits (failures new)
+      (λ image. IsOldOrMore st.records st.pending image ⊎ IsOldOrMore (settled kept st).records (appended told_by failures limits (settled kept st).records b.cause) image) st bad
   unbegun limits before st then new kept bad legal s later may b = go b.cause
     where
       at : MachineState
@@ -131,15 +136,18 @@ module _ {D : Type 0} (told_by : D → Option Contents) (failures : D → ℕ) w
       few : at.faults ≤ failures new
       few = let x = few_then in let y = b.later in omega (arith, x, y)
 
-      go : IsCause told_by failures limits at.records then bad new → StaysShut (told_by new) limits (failures new) st bad
+      go : (cause : IsCause told_by failures limits at.records then bad new) → StaysShut (told_by new) limits (failures new)
+          (λ image. IsOldOrMore st.records st.pending image ⊎ IsOldOrMore at.records (appended told_by failures limits at.records cause) image) st bad
       go (IsUnread fault file) =
-          unread (told_by new) limits before (failures new) st bad s (let y = b.later in omega (arith, later, y)) (fault-from before (failures then) (failures new) bad later fault)
-          (subst (λ t. MayHold t st.records st.pending) (sym file) may)
+          unread (told_by new) limits before (failures new) (λ image. IsOldOrMore st.records st.pending image ⊎ IsOldOrMore at.records [] image) st bad s
+          (let y = b.later in omega (arith, later, y)) (fault-from before (failures then) (failures new) bad later fault)
+          (subst (λ t. MayHold t st.records st.pending) (sym file) may) (λ image h. ⊎_elim (λ was. was) (old-found st kept image) h)
       go (IsFull full rests) = (
         with_faults at (failures new),
         (s.shut, λ e. Finds kept (FullOpening bad (opens-at at limits (Some bad) legal same full) refl (refl, few))),
         record { shut = same-open kept st ∙ s.shut; limits = same; faults = refl },
         subst (MayHold (told_by new) at.records) (sym (none-pending kept st)) rests,
+        λ image h. ⊎_elim (λ was. inl was) (λ made. inl (old-found st kept image made)) h,
       )
       go (FailsAt count is rose fits left) = (
         with_faults (closed (open_record at) at) (failures new),
@@ -149,12 +157,16 @@ module _ {D : Type 0} (told_by : D → Option Contents) (failures : D → ℕ) w
         ),
         record { shut = refl; limits = same; faults = refl },
         subst (λ q. MayHold (told_by new) at.records (q ∷ [])) (opening-same at limits legal same) left,
+        λ image h. ⊎_elim (λ was. inl was)
+            (λ made. remains-found st (with_faults (closed (open_record at) at) (failures new)) kept (open_record at ∷ []) image (first-all (at.records ++ open_record at ∷ []))
+            (subst (λ q. IsOldOrMore at.records (q ∷ []) image) (opening-same at limits legal same) made)) h,
       )
 
   -- the opening went through
   pub woken : (before : ℕ) (st : MachineState) (then : D) (new : Held D) (kept : Bool) → IsTold (settled kept st) → IsShut new.limits before st → before ≤ failures then
       → Begins told_by failures new.limits (settled kept st).records then new.disk new.pad → new.is_open ≡ true
       → (mid : MachineState) × IsWoken st mid × Stands told_by failures new mid
+      × ((image : List ℕ) → IsOldOrMore st.records st.pending image ⊎ IsOldOrMore (settled kept st).records (opening (told new.limits (settled kept st).records) ∷ []) image → MayRemain st mid image)
   woken before st then new kept legal s later b on =
       let at = settled kept st in
       let same : at.pad.limits ≡ new.limits = settled-limits kept st ∙ s.limits in
@@ -175,6 +187,10 @@ module _ {D : Type 0} (told_by : D → Option Contents) (failures : D → ℕ) w
           };
           closed_has = λ off. absurd (true≢false (sym on ∙ off));
         },
+        λ image h. ⊎_elim (λ was. inl was)
+            (λ made. remains-found st (with_faults (reopening at) (failures new.disk)) kept (open_record at ∷ []) image
+            (at.pending, refl)
+            (subst (λ q. IsOldOrMore at.records (q ∷ []) image) (opening-same at new.limits legal same) made)) h,
       )
 
   -- ---- machines and their states
@@ -182,9 +198,9 @@ module _ {D : Type 0} (told_by : D → Option Contents) (failures : D → ℕ) w
   pub shut-of : (st : MachineState) (m : Held D) → Stands told_by failures m st → m.is_open ≡ false → IsShut m.limits (failures m.disk) st
   shut-of st m s off = record { shut = s.is_open ∙ off; limits = s.limits; faults = s.faults }
 
-  pub stands-shut : (st : MachineState) (m : Held D) (bad : PadBad) → m.is_open ≡ false → StaysShut (told_by m.disk) m.limits (failures m.disk) st bad
-      → (next : MachineState) × Sleeps st bad next × Stands told_by failures m next
-  stands-shut st m bad off s = (
+  pub stands-shut : (st : MachineState) (m : Held D) (bad : PadBad) (Left : List ℕ → Type 0) → m.is_open ≡ false → StaysShut (told_by m.disk) m.limits (failures m.disk) Left st bad
+      → (next : MachineState) × Sleeps st bad next × Stands told_by failures m next × ((image : List ℕ) → Left image → MayRemain st next image)
+  stands-shut st m bad Left off s = (
     s.0,
     s.1,
     record {
@@ -194,6 +210,7 @@ module _ {D : Type 0} (told_by : D → Option Contents) (failures : D → ℕ) w
       open_has = λ on. absurd (true≢false (sym on ∙ off));
       closed_has = λ _. s.3;
     },
+    s.4,
   )
 
   -- a machine that stopped

@@ -1,4 +1,4 @@
--- Entries and replies of a program, as the rules say them.
+-- Entries and replies of a program, as the rules say them, and which reply an entry has.
 use Rattle.std.specs.Prelude.{◌≡◌, ◌≤◌, true}
 use Rattle.ep_units.specs.Text.{is_well_formed}
 use Rattle.ep_history.specs.Entries.{Entry, Reply}
@@ -43,3 +43,18 @@ MayAsk (Create text now) = is_well_formed text ≡ true
 MayAsk (SetText text now) = is_well_formed text ≡ true
 MayAsk (ReadHistory session start count) = count ≤ 10000
 MayAsk e = Unit {0}
+
+-- the reply is of the kind that the entry asks for, also where it is a refusal
+abbrev pub Suits : PadEntry → PadReply → Type 0
+Suits (asked.Login grant now) r = (x : _) × (r ≡ reply.Welcome x)
+Suits (asked.Resume grant rev birth author now) r = (x : _) × (r ≡ reply.CatchUp x)
+Suits (asked.Accept session base change now) r = (x : _) × (r ≡ reply.Committed x)
+Suits (asked.Fetch session from told) r = (x : _) × (r ≡ reply.Fetched x)
+Suits (asked.Leave session) r = (x : _) × (r ≡ reply.Done x)
+Suits (asked.Create text now) r = (x : _) × (r ≡ reply.Birth x)
+Suits (asked.SetText text now) r = (x : _) × (r ≡ reply.Committed x)
+Suits (asked.Delete now) r = (x : _) × (r ≡ reply.Done x)
+Suits (asked.SetPublic on) r = (x : _) × (r ≡ reply.Done x)
+Suits (asked.Text rev) r = (x : _) × (r ≡ reply.Text x)
+Suits (asked.History session start count) r = (x : _) × (r ≡ reply.Piece x)
+Suits asked.Status r = (x : _) × (r ≡ reply.Status x)

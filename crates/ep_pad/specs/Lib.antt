@@ -1,6 +1,10 @@
 pub mod Held
 pub mod Standing
+pub mod Crashes
 pub mod Opening
 pub mod Keeping
+pub mod Stopping
 pub mod Entries
 pub mod Histories
+pub mod Asking
+pub mod Halls

@@ -6,7 +6,7 @@ use Rattle.ep_outside.specs.declared.limits.Limits.{Limits}
 use Rattle.ep_history.specs.Pad.{reopened}
 use Rattle.ep_history.specs.Records.{AreLegal, IsNext, told}
 use Rattle.ep_history.specs.Entries.{Entry}
-use Rattle.ep_history.specs.Machine.{MachineState, IsThen, IsClosedStep, journal_fault, open_record, reopening, settled}
+use Rattle.ep_history.specs.Machine.{MachineState, IsKeptState, IsThen, IsClosedStep, journal_fault, open_record, reopening, settled}
 use Rattle.ep_history.specs.declared.pad_bad.PadBad.{PadBad}
 use Rattle.ep_history.specs.declared.pad_bad.PadBad.TheVariants.{BadRecord, Foreign, JournalFull, NoMemory, Store}
 use Rattle.ep_history.specs.declared.record.Record.{Record}
@@ -83,6 +83,12 @@ module _ {D : Type 0} (told_by : D → Option Contents) (failures : D → ℕ) (
     FailsAt : (count : ℕ) → bad ≡ Store count → HasRisenTo (failures old) (failures new) count → OpensWith limits rs None
         → MayHold (told_by new) rs (opening (told limits rs) ∷ []) → IsCause old bad new
 
+  -- what the file was being appended then
+  abbrev pub appended : {old : D} {bad : PadBad} {new : D} → IsCause old bad new → List Record
+  appended (IsUnread fault same) = []
+  appended (IsFull full may) = []
+  appended (FailsAt count is rose fits may) = opening (told limits rs) ∷ []
+
   -- it isn't, for this cause
   pub record BeginsNot (old : D) (bad : PadBad) (new : D) : Type 0 where
     pub later : failures old ≤ failures new
@@ -113,4 +119,13 @@ pub record IsRefused {D : Type 0} (told_by : D → Option Contents) (failures : 
   pub cause : OpenRefused (told_by disk) (failures disk) (failures back) why
   pub later : failures disk ≤ failures back
   pub keeps : (rs pending : List Record) → MayHold (told_by disk) rs pending → AreLegal limits (rs ++ pending) → (n : ℕ) × (next : MachineState)
-      × Sleeps (found limits rs pending n) why next × MayHold (told_by back) next.records next.pending
+      × Sleeps (found limits rs pending n) why next × MayHold (told_by back) next.records next.pending × (failures disk ≤ n)
+
+-- a closed state all of whose records a file has, as a machine with these limits finds it on a disk that counts so many faults
+pub record MayFind (within : Limits) (faults : ℕ) (file : List ℕ) (st : MachineState) : Type 0 where
+  pub stands : StandsFor st.records file
+  pub kept : IsKeptState st
+  pub shut : st.is_open ≡ false
+  pub settled : st.pending ≡ []
+  pub limits : st.pad.limits ≡ within
+  pub few : st.faults ≤ faults

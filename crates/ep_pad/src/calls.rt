@@ -7,7 +7,7 @@ ghost use Rattle.ep_history.specs.Entries.Entry.{Login, Resume, Accept, Fetch, L
 ghost use Rattle.ep_history.specs.Entries.Answer.{LoginAnswer, ResumeAnswer, CommitAnswer, FetchAnswer, BirthAnswer, TextAnswer, HistoryAnswer, StatusAnswer, Done};
 ghost use Rattle.ep_step.specs.Telling.{told_by};
 ghost use Rattle.ep_pad_state.specs.Answering.{welcome_of, catch_up_of, fetched_of, piece_of, status_of};
-ghost use Rattle.ep_pad.specs.Standing.{Steps};
+ghost use Rattle.ep_pad.specs.Crashes.{StepsOver};
 
 use crate::machine::PadMachine;
 use ep_apply::Doc;
@@ -20,7 +20,7 @@ use ep_units::{Grant, Session, Units};
 impl<D: Disk> PadMachine<D> {
     /// Somebody logs in with a grant, at this moment. An absent pad is made, with no text, for the one who may.
     pub fn login(&mut self, grant: &Grant, now: u64) -> Result<Welcome, PadBad>
-        ensures { Steps D.told D.failures self.old (Login grant.now now) (λ x. LoginAnswer (welcome_of x)) result self.new }
+        ensures { StepsOver D.told D.failures D.moment D.since D.is_steady D.stops_alone D.left self.old (Login grant.now now) (λ x. LoginAnswer (welcome_of x)) result self.new }
     {
         self.wake()?;
         match self.pad.login(self.alloc, grant, now)? {
@@ -38,7 +38,7 @@ impl<D: Disk> PadMachine<D> {
         author: Option<&Units>,
         now: u64,
     ) -> Result<CatchUp, PadBad>
-        ensures { Steps D.told D.failures self.old (Resume grant.now rev birth (option_copied author.entry) now) (λ x. ResumeAnswer (catch_up_of x)) result self.new }
+        ensures { StepsOver D.told D.failures D.moment D.since D.is_steady D.stops_alone D.left self.old (Resume grant.now rev birth (option_copied author.entry) now) (λ x. ResumeAnswer (catch_up_of x)) result self.new }
     {
         self.wake()?;
         self.pad.resume(self.alloc, grant, rev, birth, author)
@@ -52,18 +52,16 @@ impl<D: Disk> PadMachine<D> {
         change: Change,
         now: u64,
     ) -> Result<Committed, PadBad>
-        ensures { Steps D.told D.failures self.old (Accept session base change now) (λ x. CommitAnswer (told_by x)) result self.new }
+        ensures { StepsOver D.told D.failures D.moment D.since D.is_steady D.stops_alone D.left self.old (Accept session base change now) (λ x. CommitAnswer (told_by x)) result self.new }
     {
-        let _normal = change.ops();
         self.wake()?;
-        let ready = self.pad.accept(self.alloc, session, base, change, now)?;
-        self.keep(ready)
+        self.take(session, base, change, now)
     }
 
     /// The revisions behind one that a session has heard, at most 64, and what it is to be told of its edits that became
     /// nothing.
     pub fn fetch(&mut self, session: Session, from: u64, told: u64) -> Result<Fetched, PadBad>
-        ensures { Steps D.told D.failures self.old (Fetch session from told) (λ x. FetchAnswer (fetched_of x)) result self.new }
+        ensures { StepsOver D.told D.failures D.moment D.since D.is_steady D.stops_alone D.left self.old (Fetch session from told) (λ x. FetchAnswer (fetched_of x)) result self.new }
     {
         self.wake()?;
         self.pad.fetch(self.alloc, session, from, told)
@@ -71,7 +69,7 @@ impl<D: Disk> PadMachine<D> {
 
     /// A session leaves.
     pub fn leave(&mut self, session: Session) -> Result<(), PadBad>
-        ensures { Steps D.told D.failures self.old (Leave session) (λ _. Done) result self.new }
+        ensures { StepsOver D.told D.failures D.moment D.since D.is_steady D.stops_alone D.left self.old (Leave session) (λ _. Done) result self.new }
     {
         self.wake()?;
         self.pad.leave(session)
@@ -80,7 +78,7 @@ impl<D: Disk> PadMachine<D> {
     /// The pad is made with a text, and its birth is answered.
     pub fn create(&mut self, text: &Units, now: u64) -> Result<u64, PadBad>
         requires { is_well_formed text.now ≡ true }
-        ensures { Steps D.told D.failures self.old (Create text.now now) BirthAnswer result self.new }
+        ensures { StepsOver D.told D.failures D.moment D.since D.is_steady D.stops_alone D.left self.old (Create text.now now) BirthAnswer result self.new }
     {
         self.wake()?;
         let ready = self.pad.create(self.alloc, text, now)?;
@@ -90,7 +88,7 @@ impl<D: Disk> PadMachine<D> {
     /// The server's text is set.
     pub fn set_text(&mut self, text: &Units, now: u64) -> Result<Committed, PadBad>
         requires { is_well_formed text.now ≡ true }
-        ensures { Steps D.told D.failures self.old (SetText text.now now) (λ x. CommitAnswer (told_by x)) result self.new }
+        ensures { StepsOver D.told D.failures D.moment D.since D.is_steady D.stops_alone D.left self.old (SetText text.now now) (λ x. CommitAnswer (told_by x)) result self.new }
     {
         self.wake()?;
         let ready = self.pad.set_text(self.alloc, text, now)?;
@@ -99,7 +97,7 @@ impl<D: Disk> PadMachine<D> {
 
     /// The pad is deleted, and its sessions end.
     pub fn delete(&mut self, now: u64) -> Result<(), PadBad>
-        ensures { Steps D.told D.failures self.old (Delete now) (λ _. Done) result self.new }
+        ensures { StepsOver D.told D.failures D.moment D.since D.is_steady D.stops_alone D.left self.old (Delete now) (λ _. Done) result self.new }
     {
         self.wake()?;
         let ready = self.pad.delete(now)?;
@@ -108,7 +106,7 @@ impl<D: Disk> PadMachine<D> {
 
     /// Whether anybody may enter a group's pad.
     pub fn set_public(&mut self, on: bool) -> Result<(), PadBad>
-        ensures { Steps D.told D.failures self.old (SetPublic on) (λ _. Done) result self.new }
+        ensures { StepsOver D.told D.failures D.moment D.since D.is_steady D.stops_alone D.left self.old (SetPublic on) (λ _. Done) result self.new }
     {
         self.wake()?;
         let ready = self.pad.set_public(on)?;
@@ -117,7 +115,7 @@ impl<D: Disk> PadMachine<D> {
 
     /// The document of a revision, or of the head.
     pub fn text(&mut self, rev: Option<u64>) -> Result<Doc, PadBad>
-        ensures { Steps D.told D.failures self.old (ReadText rev) TextAnswer result self.new }
+        ensures { StepsOver D.told D.failures D.moment D.since D.is_steady D.stops_alone D.left self.old (ReadText rev) TextAnswer result self.new }
     {
         self.wake()?;
         self.pad.text(self.alloc, rev)
@@ -126,7 +124,7 @@ impl<D: Disk> PadMachine<D> {
     /// The document of a revision, and so many revisions behind it, all where they are fewer.
     pub fn history(&mut self, session: Session, start: u64, count: u64) -> Result<Piece, PadBad>
         requires { count ≤ 10000 }
-        ensures { Steps D.told D.failures self.old (ReadHistory session start count) (λ x. HistoryAnswer (piece_of x)) result self.new }
+        ensures { StepsOver D.told D.failures D.moment D.since D.is_steady D.stops_alone D.left self.old (ReadHistory session start count) (λ x. HistoryAnswer (piece_of x)) result self.new }
     {
         self.wake()?;
         self.pad.history(self.alloc, session, start, count)
@@ -134,7 +132,7 @@ impl<D: Disk> PadMachine<D> {
 
     /// The pad as a whole.
     pub fn status(&mut self) -> Result<PadStatus, PadBad>
-        ensures { Steps D.told D.failures self.old ReadStatus (λ x. StatusAnswer (status_of x)) result self.new }
+        ensures { StepsOver D.told D.failures D.moment D.since D.is_steady D.stops_alone D.left self.old ReadStatus (λ x. StatusAnswer (status_of x)) result self.new }
     {
         self.wake()?;
         self.pad.status()

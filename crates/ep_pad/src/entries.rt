@@ -1,7 +1,7 @@
 //! The calls as entries with replies, so that a pad is a `Machine`.
 
-ghost use Rattle.ep_pad.specs.Entries.{MayAsk, entry_of, reply_of};
-ghost use Rattle.ep_pad.specs.Standing.{Makes};
+ghost use Rattle.ep_pad.specs.Entries.{MayAsk, Suits, entry_of, reply_of};
+ghost use Rattle.ep_pad.specs.Crashes.{MakesOver};
 
 use crate::machine::PadMachine;
 use ep_apply::Doc;
@@ -81,7 +81,8 @@ pub enum PadReply {
 impl<D: Disk> PadMachine<D> {
     fn answer(&mut self, entry: PadEntry) -> PadReply
         requires { MayAsk (entry_of entry) }
-        ensures { Makes D.told D.failures self.old (entry_of entry) (reply_of result) self.new }
+        ensures makes { MakesOver D.told D.failures D.moment D.since D.is_steady D.stops_alone D.left self.old (entry_of entry) (reply_of result) self.new }
+        ensures suits { Suits entry result }
     {
         match entry {
             PadEntry::Login { grant, now } => PadReply::Welcome(self.login(&grant, now)),
@@ -133,7 +134,7 @@ impl<D: Disk + Drop> Machine for PadMachine<D> {
 
     ghost legal = { λ h. IsLegalWhere D.told h };
 
-    ghost stands_legal = { λ m h made tell. let x = made tell in (x.0, x.1, x.2, x.3) };
+    ghost stands_legal = { λ m h made. (λ tell. let x = made.0 tell in (x.0, x.1, x.2, x.3), made.1) };
 
     fn call(&mut self, entry: PadEntry) -> PadReply {
         self.answer(entry)

@@ -1,10 +1,13 @@
 //! How a record is kept.
 
-ghost use Rattle.std.specs.Prelude.{◌≡◌, true, MatchResult};
-ghost use Rattle.ep_history.specs.Machine.{MachineState};
+ghost use Rattle.std.specs.Prelude.{◌≡◌, ◌≤◌, ℕ, true, Some, None, MatchResult};
+ghost use Rattle.ep_history.specs.Machine.{MachineState, journal_fault};
+ghost use Rattle.ep_pad_file.specs.Standing.{size};
+ghost use Rattle.ep_pad_file.specs.Stopping.{IsStopped};
 ghost use Rattle.ep_pad_state.specs.Making.{after, IsReady};
 ghost use Rattle.ep_pad.specs.Standing.{Stands};
-ghost use Rattle.ep_pad.specs.Keeping.{IsKept, IsNotKept};
+ghost use Rattle.ep_pad.specs.Crashes.{Comes};
+ghost use Rattle.ep_pad.specs.Keeping.{IsKept, IsNotKept, IsStoppedAt};
 
 use crate::machine::PadMachine;
 use ep_history::PadBad;
@@ -17,9 +20,17 @@ impl<D: Disk> PadMachine<D> {
     pub(crate) fn keep<A: Drop>(&mut self, ready: Ready<A>) -> Result<A, PadBad>
         requires open { self.old.is_open ≡ true }
         requires ready { IsReady self.old.pad ready.change }
-        ensures { (st : MachineState) → Stands D.told D.failures self.old st → MatchResult result
-            (λ answer. (answer ≡ ready.answer) × ((new : MachineState) × IsKept st ready.record (after ready.change st.pad) new × Stands D.told D.failures self.new new))
-            (λ bad. (new : MachineState) × IsNotKept st ready.record bad new × Stands D.told D.failures self.new new) }
+        ensures keeps { (st : MachineState) → Stands D.told D.failures self.old st → MatchResult result
+            (λ answer. (answer ≡ ready.answer) × ((new : MachineState) × IsKept st ready.record (after ready.change st.pad) new
+            × Comes D.told D.failures D.moment D.since D.is_steady D.stops_alone D.left self.old st self.new new))
+            (λ bad. (new : MachineState) × IsNotKept st ready.record bad new
+            × Comes D.told D.failures D.moment D.since D.is_steady D.stops_alone D.left self.old st self.new new) }
+        ensures stopped { (st : MachineState) (calls : ℕ) → Stands D.told D.failures self.old st → D.stops_alone self.old.disk ≡ true → D.left self.old.disk ≡ Some calls
+            → MatchResult result
+            (λ _. (journal_fault size st ready.record ≡ None) × IsStopped (D.told self.new.disk) st.records ready.record calls)
+            (IsStoppedAt (D.told self.new.disk) st ready.record calls) }
+        ensures later { D.failures self.old.disk ≤ D.failures self.new.disk }
+        ensures limits { self.new.limits ≡ self.old.limits }
     {
         let prepared = self.file.prepare(self.alloc, &ready.record)?;
         if let Err(bad) = self.file.append(prepared) {

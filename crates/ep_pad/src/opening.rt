@@ -7,12 +7,14 @@ ghost use Rattle.ep_history.specs.declared.record.Record.{Record};
 ghost use Rattle.ep_journal.specs.File.{mended};
 ghost use Rattle.ep_outside.specs.Disk.{Contents, IsImage, KeepsMarks, settled};
 ghost use Rattle.ep_outside.specs.Crash.{IsAsked, image_at};
+ghost use Rattle.ep_outside.specs.Moments.{LeavesOnly};
 ghost use Rattle.ep_pad_file.specs.PadFile.{disk_of, limit_of, IsReady as IsFileReady};
 ghost use Rattle.ep_pad_file.specs.Standing.{Holds, IsOldOrMore, MayHold, StandsFor};
 ghost use Rattle.ep_pad_state.specs.Held.{IsPad};
 ghost use Rattle.ep_pad.specs.Histories.{HasMade};
 ghost use Rattle.ep_pad.specs.Standing.{opening, Stands};
-ghost use Rattle.ep_pad.specs.Opening.{found, stopped, BeginRefused, Begins, BeginsNot, IsBadAt, IsLegalFile, IsReadFault, IsRefused, IsWoken, Sleeps};
+ghost use Rattle.ep_pad.specs.Crashes.{Comes, MayRemain};
+ghost use Rattle.ep_pad.specs.Opening.{appended, found, stopped, BeginRefused, Begins, BeginsNot, IsBadAt, IsLegalFile, IsReadFault, IsRefused, IsWoken, MayFind, Sleeps};
 
 use crate::machine::PadMachine;
 use ep_history::{PadBad, Record};
@@ -32,6 +34,7 @@ fn reread<D: Disk>(alloc: Global, file: &mut PadFile<D>, limits: Limits) -> Resu
     ensures refused { IfErr result (BeginRefused (D.failures (disk_of file.old)) (D.failures (disk_of file.new))) }
     ensures settled { (rs : List Record) → Holds (D.told (disk_of file.old)) rs → MayHold (D.told (disk_of file.old)) rs [] }
     ensures told { D.told (disk_of file.new) ≡ D.told (disk_of file.old) }
+    ensures images { LeavesOnly D.moment D.since (disk_of file.old) (disk_of file.new) (IsImage (D.told (disk_of file.old))) }
     ensures ready { OnOk result (IsFileReady D.told file.new) }
     ensures limit { limit_of file.new ≡ limit_of file.old }
     ensures marks { KeepsMarks D.is_steady D.stops_alone D.left (disk_of file.old) (disk_of file.new) }
@@ -52,8 +55,10 @@ fn begin<D: Disk>(alloc: Global, file: &mut PadFile<D>, limits: Limits) -> Resul
     requires file { IsFileReady D.told file.old }
     requires limit { limit_of file.old ≡ limits.journal }
     ensures begins { (rs : List Record) → Holds (D.told (disk_of file.old)) rs → AreLegal limits rs → MatchResult result
-        (Begins D.told D.failures limits rs (disk_of file.old) (disk_of file.new))
-        (λ bad. BeginsNot D.told D.failures limits rs (disk_of file.old) bad (disk_of file.new)) }
+        (λ pad. Begins D.told D.failures limits rs (disk_of file.old) (disk_of file.new) pad
+        × LeavesOnly D.moment D.since (disk_of file.old) (disk_of file.new) (IsOldOrMore rs (opening (told limits rs) ∷ [])))
+        (λ bad. (b : BeginsNot D.told D.failures limits rs (disk_of file.old) bad (disk_of file.new))
+        × LeavesOnly D.moment D.since (disk_of file.old) (disk_of file.new) (IsOldOrMore rs (appended D.told D.failures limits rs b.cause))) }
     ensures refused { IfErr result (BeginRefused (D.failures (disk_of file.old)) (D.failures (disk_of file.new))) }
     ensures found { (c : Contents) → D.told (disk_of file.old) ≡ Some c → IfOk result (λ _. IsLegalFile limits c.seen) }
     ensures bad { (c : Contents) (k : ℕ) → D.told (disk_of file.old) ≡ Some c → IfErr result (λ why. why ≡ PadBad.BadRecord k → IsBadAt limits c.seen k) }
@@ -78,9 +83,10 @@ impl<D: Disk> PadMachine<D> {
     /// Opens a closed machine again.
     pub(crate) fn wake(&mut self) -> Result<(), PadBad>
         ensures wakes { (st : MachineState) → IsKeptState st → Stands D.told D.failures self.old st → MatchResult result
-            (λ _. (mid : MachineState) × IsWoken st mid × Stands D.told D.failures self.new mid)
-            (λ bad. (new : MachineState) × Sleeps st bad new × Stands D.told D.failures self.new new) }
+            (λ _. (mid : MachineState) × IsWoken st mid × Comes D.told D.failures D.moment D.since D.is_steady D.stops_alone D.left self.old st self.new mid)
+            (λ bad. (new : MachineState) × Sleeps st bad new × Comes D.told D.failures D.moment D.since D.is_steady D.stops_alone D.left self.old st self.new new) }
         ensures open { OnOk result (self.new.is_open ≡ true) }
+        ensures settled { (st : MachineState) → OnOk result (Stands D.told D.failures self.new st → MayHold (D.told self.new.disk) st.records st.pending) }
     {
         if self.is_open {
             return Ok(());
@@ -108,6 +114,12 @@ impl<D: Disk> PadMachine<D> {
         // A disk that was left while a record was being appended, or none.
         ensures opens { (rs pending : List Record) → MayHold (D.told disk) rs pending → AreLegal limits (rs ++ pending)
             → IfOk result (λ m. (n : ℕ) × (D.failures disk ≤ n) × ((mid : MachineState) × IsWoken (found limits rs pending n) mid × Stands D.told D.failures m mid)) }
+        // A crash on the way leaves the records, or these and the pending one, and then what the opening appends or not.
+        ensures crash { (rs pending : List Record) → MayHold (D.told disk) rs pending → AreLegal limits (rs ++ pending) → MatchResult result
+            (λ m. (mid : MachineState) × Stands D.told D.failures m mid × LeavesOnly D.moment D.since disk m.disk (MayRemain (found limits rs pending (D.failures disk)) mid))
+            (λ refused. (next : MachineState) × MayHold (D.told refused.back) next.records next.pending
+            × LeavesOnly D.moment D.since disk refused.back (MayRemain (found limits rs pending (D.failures disk)) next)) }
+        ensures marks { MatchResult result (λ m. KeepsMarks D.is_steady D.stops_alone D.left disk m.disk) (λ refused. KeepsMarks D.is_steady D.stops_alone D.left disk refused.back) }
         ensures refused { IfErr result (λ r. IsRefused D.told D.failures limits disk r.back r.why) }
     {
         let mut file = match PadFile::open(alloc, disk, limits.journal) {
@@ -153,6 +165,12 @@ impl<D: Crash> PadMachine<D> {
     pub fn stop_after(&mut self, calls: u64, asked: Image)
         ensures stop { D.left self.new.disk ≡ Some calls }
         ensures image { D.image self.new.disk ≡ asked }
+        ensures told { D.told self.new.disk ≡ D.told self.old.disk }
+        ensures images { LeavesOnly D.moment D.since self.old.disk self.new.disk (IsImage (D.told self.old.disk)) }
+        ensures failures { D.failures self.new.disk ≡ D.failures self.old.disk }
+        ensures alone { D.stops_alone self.new.disk ≡ D.stops_alone self.old.disk }
+        ensures limits { self.new.limits ≡ self.old.limits }
+        ensures open { self.new.is_open ≡ self.old.is_open }
         ensures stands { (st : MachineState) → Stands D.told D.failures self.old st → Stands D.told D.failures self.new st }
     {
         self.file.stop_after(calls, asked);
@@ -165,10 +183,19 @@ impl<D: Crash> PadMachine<D> {
         ensures image { (c : Contents) → D.told self.old.disk ≡ Some c → (image : List ℕ) × IsAsked c (image_at (D.left self.old.disk) (D.image self.old.disk)) image
             × ((rs : List Record) → StandsFor rs image → AreLegal self.old.limits rs
             → OnOk result ((st : MachineState) × IsFirst st × (st.records ≡ rs ++ opening (told self.old.limits rs) ∷ []) × Stands D.told D.failures self.new st)) }
+        // Of a state all of whose records stand in that image.
+        ensures finds { (c : Contents) → D.told self.old.disk ≡ Some c → (image : List ℕ) × IsAsked c (image_at (D.left self.old.disk) (D.image self.old.disk)) image
+            × ((at : MachineState) → MayFind self.old.limits (D.failures self.old.disk) image at
+            → OnOk result ((mid : MachineState) × IsWoken at mid × Stands D.told D.failures self.new mid)) }
         ensures works { D.left self.new.disk ≡ None }
+        ensures steady { D.is_steady self.old.disk ≡ true → D.is_steady self.new.disk ≡ true }
+        ensures alone { D.stops_alone self.new.disk ≡ D.stops_alone self.old.disk }
         ensures restarts { (st : MachineState) → IsKeptState st → Stands D.told D.failures self.old st → MatchResult result
             (λ _. (mid : MachineState) × IsWoken (stopped st) mid × Stands D.told D.failures self.new mid)
             (λ bad. (next : MachineState) × Sleeps (stopped st) bad next × Stands D.told D.failures self.new next) }
+        ensures crash { (st : MachineState) → IsKeptState st → Stands D.told D.failures self.old st → (next : MachineState)
+            × Stands D.told D.failures self.new next
+            × LeavesOnly D.moment D.since self.old.disk self.new.disk (MayRemain st next) }
     {
         self.is_open = false;
         self.file.restart(self.alloc)?;

@@ -1,3 +1,4 @@
 pub mod Standing
 pub mod PadFile
 pub mod Refusals
+pub mod Stopping

@@ -14,6 +14,7 @@ ghost use Rattle.ep_history.specs.declared.record.Record.{Record};
 ghost use Rattle.ep_pad_file.specs.Standing.{size, StandsFor, Holds, HoldsSynced, MayHold, IsLeft, IsOldOrMore, IsByGate, IsHalfway, IsRecordAt};
 ghost use Rattle.ep_pad_file.specs.PadFile.{disk_of, limit_of, count_of, length_of, length_with, file_fault, size_fault, IsReady, IsClosed, HasRoomFor, IsSameOver, Reopens};
 ghost use Rattle.ep_pad_file.specs.Refusals.{OpenRefused, AppendRefused, ReadRefused};
+ghost use Rattle.ep_pad_file.specs.Stopping.{IsStopped};
 
 use crate::prepared::Prepared;
 use crate::refusals::pad_bad;
@@ -225,6 +226,9 @@ impl<D: Disk> PadFile<D> {
         ensures stopped_late { (rs : List Record) → Holds (D.told (disk_of self.old)) rs → D.stops_alone (disk_of self.old) ≡ true → D.left (disk_of self.old) ≡ Some 3
             → IsHalfway (D.told (disk_of self.new)) rs prepared }
         ensures goes_through { (calls : ℕ) → D.stops_alone (disk_of self.old) ≡ true → D.left (disk_of self.old) ≡ Some (calls + 4) → IsOk result }
+        // Whatever image is then asked for, it has the record exactly where the count of calls and the image say so.
+        ensures stopped { (rs : List Record) (calls : ℕ) → Holds (D.told (disk_of self.old)) rs → D.stops_alone (disk_of self.old) ≡ true
+            → D.left (disk_of self.old) ≡ Some calls → IsStopped (D.told (disk_of self.new)) rs prepared calls }
 
         ensures refused { IfErr result (AppendRefused (IsSure D.is_steady D.stops_alone D.left (disk_of self.old)) (D.failures (disk_of self.old)) (D.failures (disk_of self.new))) }
         ensures closed { OnErr result (IsClosed self.new) }
@@ -299,6 +303,7 @@ impl<D: Crash> PadFile<D> {
         ensures closed { OnErr result (IsClosed self.new) }
         ensures limit { limit_of self.new ≡ limit_of self.old }
         ensures stop { D.left (disk_of self.new) ≡ None }
+        ensures steady { D.is_steady (disk_of self.old) ≡ true → D.is_steady (disk_of self.new) ≡ true }
         ensures alone { D.stops_alone (disk_of self.new) ≡ D.stops_alone (disk_of self.old) }
         ensures reads { OnOk result (ReadsUpTo (D.bytes_read (disk_of self.old)) (D.bytes_read (disk_of self.new)) (5 * count_of self.new + 14)) }
         ensures later { D.failures (disk_of self.old) ≤ D.failures (disk_of self.new) }

@@ -7,7 +7,7 @@ use ep_pad::{PadBad, PadMachine};
 use std::alloc::Global;
 
 /// The usual limits.
-const LIMITS: Limits = Limits {
+pub const LIMITS: Limits = Limits {
     live: 1_000,
     logins: 1_000_000,
     units: 1_000_000,
@@ -16,7 +16,7 @@ const LIMITS: Limits = Limits {
 };
 
 /// The bytes that a disk holds.
-fn left(alloc: Global, mut disk: MemDisk) -> Result<Vec<u8>> {
+pub fn left(alloc: Global, mut disk: MemDisk) -> Result<Vec<u8>> {
     let length = disk.length()?;
     let mut bytes = Vec::new(alloc);
     bytes.resize(length as usize, 0)?;
@@ -25,9 +25,9 @@ fn left(alloc: Global, mut disk: MemDisk) -> Result<Vec<u8>> {
 }
 
 /// What the opening of a file says, and its bytes then.
-pub fn opened(alloc: Global, line: &str) -> Result<String> {
-    let disk = MemDisk::new(alloc, hex::decode(alloc, line)?, Vec::new(alloc))?;
-    let (said, disk) = match PadMachine::open(alloc, disk, LIMITS) {
+pub fn opened(alloc: Global, file: &str, limits: Limits) -> Result<String> {
+    let disk = MemDisk::new(alloc, hex::decode(alloc, file)?, Vec::new(alloc))?;
+    let (said, disk) = match PadMachine::open(alloc, disk, limits) {
         Ok(pad) => (String::from_str(alloc, "ok")?, pad.into_disk()),
         Err(refused) => (refusal(alloc, refused.why)?, refused.back),
     };
@@ -39,6 +39,6 @@ fn refusal(alloc: Global, why: PadBad) -> Result<String> {
     Ok(match why {
         PadBad::Foreign => String::from_str(alloc, "foreign")?,
         PadBad::BadRecord(i) => format!(in alloc; "record {i}")?,
-        other => format!(in alloc; "{other}")?,
+        other => format!(in alloc; "{other:?}")?,
     })
 }

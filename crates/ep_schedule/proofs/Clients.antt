@@ -141,7 +141,7 @@ module _ (b : Birth) (pad : PadState) (taken : List Taken) (edits : List Name) (
     carried = λ s f i v l e h. let u = g.unheard i v l e (h ∙ ap (λ (t : Submission). t.session) (sym (some_same f))) in none_some (sym none ∙ u.1);
     taken_unheard = λ s f t among e. absurd (fresh t among e);
     dropped = λ c t s e o. absurd (o (ap (λ (t : Submission). t.session) (sym (some_same e))));
-    up = inr (record { change = stamped m.client.local (text_of (doc_at b m.client.rev)); base = m.client.rev; session = m.client.session }, refl, refl, ap (λ us. us ++ record { number = suc (length edits); base = m.client.rev; change = stamped m.client.local (text_of (doc_at b m.client.rev)) } ∷ []) (no_up (λ s e h. none_some (sym none ∙ e))), fresh);
+    up = inr (record { change = stamped m.client.local (text_of (doc_at b m.client.rev)); base = m.client.rev; session = m.client.session }, refl, refl, ap (λ us. us ++ record { number = suc (length edits); base = m.client.rev; change = stamped m.client.local (text_of (doc_at b m.client.rev)); unread = None } ∷ []) (no_up (λ s e h. none_some (sym none ∙ e))), fresh);
     sent_rev = g.sent_rev;
     down = λ c. inl (turn-quiet b taken m (g.down c) (λ p. none_some (sym none ∙ p.1)));
     lost = g.lost;
@@ -169,7 +169,7 @@ module _ (b : Birth) (pad : PadState) (taken : List Taken) (edits : List Name) (
     carried = λ t f i v l e h. absurd (none_unheard i v l e (h ∙ ap (λ (u : Submission). u.session) (sym (some_same f))));
     taken_unheard = λ t f u among e. absurd (fresh u among e);
     dropped = λ c t s e o. absurd (o (ap (λ (t : Submission). t.session) (sym (some_same e))));
-    up = inr (record { change = stamped (submission b m.client) (text_of (doc_at b m.client.rev)); base = m.client.rev; session = m.client.session }, refl, refl, ap (λ us. us ++ record { number = m.number; base = m.client.rev; change = stamped (submission b m.client) (text_of (doc_at b m.client.rev)) } ∷ []) (no_up (λ t e h. other (ap (λ (u : Submission). u.session) (some_same (sym is ∙ e)) ∙ h))), fresh);
+    up = inr (record { change = stamped (submission b m.client) (text_of (doc_at b m.client.rev)); base = m.client.rev; session = m.client.session }, refl, refl, ap (λ us. us ++ record { number = m.number; base = m.client.rev; change = stamped (submission b m.client) (text_of (doc_at b m.client.rev)); unread = None } ∷ []) (no_up (λ t e h. other (ap (λ (u : Submission). u.session) (some_same (sym is ∙ e)) ∙ h))), fresh);
     sent_rev = g.sent_rev;
     down = λ c. inl (turn-quiet b taken m (g.down c) (λ p. other (ap (λ (t : Submission). t.session) (some_same (sym is ∙ p.1)) ∙ p.2)));
     lost = g.lost;

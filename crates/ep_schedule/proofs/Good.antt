@@ -88,7 +88,7 @@ abbrev pub IsCarried : List Taken → Name → Member → ℕ → Submission →
 IsCarried taken k m i s = (now : ℕ) × Among (as_taken k m i s now) taken
 
 abbrev pub as_message : Member → Submission → Message
-as_message m s = record { number = m.number; base = s.base; change = s.change }
+as_message m s = record { number = m.number; base = s.base; change = s.change; unread = None }
 
 -- no take of this number is known
 abbrev pub IsUntaken : List Taken → ℕ → Type 0

@@ -1,7 +1,8 @@
 -- Records only grow, and kept clients stand for the world's.
-use Rattle.std.proofs.Common.{◌≡◌, ℕ, ◌≤◌, Bool, true, false, not, ◌&&◌, if◌then◌else◌, List, [], ◌∷◌, ◌++◌, ◌⊎◌, inl, inr, length, Option, Some, None, refl, sym, ap, ◌∙◌, subst, arith, ◌==◌}
+use Rattle.std.proofs.Common.{◌≡◌, ℕ, ◌≤◌, Bool, true, false, not, ◌&&◌, if◌then◌else◌, List, [], ◌∷◌, ◌++◌, ◌⊎◌, inl, inr, length, Option, Some, None, Result, refl, sym, ap, ◌∙◌, subst, arith, ◌==◌}
 use Rattle.std.proofs.lemmas.List.{append_assoc, append-nil}
 use Rattle.ep_cs.specs.Edit.{Edit}
+use Rattle.ep_csread.specs.declared.bad.ReadBad.{ReadBad}
 use Rattle.ep_history.specs.Accept.{at_head, by_session, committed}
 use Rattle.ep_history.specs.Client.{ClientState, edited, is_own, submitted, view}
 use Rattle.ep_history.specs.Entry.{opened}
@@ -13,10 +14,11 @@ use Rattle.ep_history.specs.declared.pad_bad.PadBad.{PadBad}
 use Rattle.ep_history.specs.Refusals.{login_fault, resume_fault}
 use Rattle.ep_history.specs.Server.{create_fault, gone_fault, set_fault, set_text}
 use Rattle.ep_schedule.specs.Headline.{Extends, Grows}
-use Rattle.ep_schedule.specs.World.{Actor, Conn, Down, Event, Member, Message, Name, Reason, Taken, WorldState, answered, author_of, crashed, edit_by, entered, grant_of, happens, hear_by, hear_first, if_text, inject_by, late_as, late_by, late_first, late_of, login_as, login_if, lose_by, lost_member, pad_if, push_as, push_by, push_login, push_next, push_turn, reason, resume_by, resume_if, run, spending, stop_as, stop_by, stop_conn, stopped, submit_as, submit_by, submit_if, take_by, take_first_guest, take_first_named, take_guest, take_named, visit, visit_as, visit_if, with_actor, with_client, with_conn, with_earlier, with_up}
+use Rattle.ep_schedule.specs.World.{Actor, Conn, Down, Event, Member, Message, Name, Reason, Taken, Word, WorldState, answered, author_of, crashed, edit_by, entered, grant_of, happens, hear_by, hear_first, if_text, inject_by, late_as, late_by, late_first, late_of, login_as, login_if, lose_by, lost_member, overfull_by, overfull_first_guest, overfull_first_named, overfull_guest, overfull_named, pad_if, push_as, push_by, push_login, push_next, push_turn, reason, refused_guest, refused_named, resume_by, resume_if, run, spending, stop_as, stop_by, stop_conn, stopped, submit_as, submit_by, submit_if, take_by, take_first_guest, take_first_named, take_guest, take_named, visit, visit_as, visit_if, with_actor, with_client, with_conn, with_earlier, with_up}
 use Rattle.ep_schedule.specs.World.Actor.{Guest, Named, Nobody}
 use Rattle.ep_schedule.specs.World.Down.{Closing, Revision, Spent}
-use Rattle.ep_schedule.specs.World.Event.{Create, Delete, Edits, Hear, Inject, Late, Login, Lose, Push, Resume, SetText, Stop, Submit, Take, Visit}
+use Rattle.ep_schedule.specs.World.Word.{BadChangeset, JournalFull}
+use Rattle.ep_schedule.specs.World.Event.{Create, Delete, Edits, Hear, Inject, Late, Login, Lose, Overfull, Push, Resume, SetText, Stop, Submit, Take, Visit}
 use Rattle.ep_history.specs.declared.seat.Why.TheVariants.{Deleted, Left, Reopened, Replaced}
 use Rattle.ep_units.specs.Text.{Text, is_well_formed}
 use Rattle.ep_schedule.proofs.Runs.{created-old}
@@ -162,10 +164,16 @@ submit-grows w n (Named m) = go (submitted (birth_at w.pad m.birth) m.client)
     go None = stays w
     go (Some c) = as_ m.client.sent c
 
-inject-grows : (w : WorldState) (n : Name) (base : ℕ) (change : Option Change) (a : Actor) → Grows w (inject_by w n base change a)
-inject-grows w n base change Nobody = stays w
-inject-grows w n base change (Named m) = stays w
-inject-grows w n base change (Guest c) = still w _ (same-births w.pad w.pad refl) refl
+inject-grows : (w : WorldState) (n : Name) (base : ℕ) (read : Result Change ReadBad) (a : Actor) → Grows w (inject_by w n base read a)
+inject-grows w n base read Nobody = stays w
+inject-grows w n base read (Named m) = stays w
+inject-grows w n base read (Guest c) = still w _ (same-births w.pad w.pad refl) refl
+
+refused-grows : (word : Word) (w : WorldState) (n : Name) (m : Member) → Grows w (refused_named word w n m)
+refused-grows word w n m = still w _ (same-births w.pad _ refl) refl
+
+refused-guest-grows : (w : WorldState) (n : Name) (c : Conn) → Grows w (refused_guest w n c)
+refused-guest-grows w n c = still w _ (same-births w.pad _ refl) refl
 
 take-grows : (w : WorldState) (now : ℕ) (n : Name) (a : Actor) → Grows w (take_by w now n a)
 take-grows w now n Nobody = stays w
@@ -173,7 +181,7 @@ take-grows w now n (Guest c) = first c.up
   where
     decided : (c' : Conn) (msg : Message) (o : Option Reason) → Grows w (take_guest w now n c' msg o)
     decided c' msg None = takes w c'.session now msg _ refl _ refl
-    decided c' msg (Some bad) = still w _ (same-births w.pad _ refl) refl
+    decided c' msg (Some bad) = refused-guest-grows w n c'
 
     first : (us : List Message) → Grows w (take_first_guest w now n c us)
     first [] = stays w
@@ -182,11 +190,32 @@ take-grows w now n (Named m) = first m.conn.up
   where
     decided : (m' : Member) (msg : Message) (o : Option Reason) → Grows w (take_named w now n m' msg o)
     decided m' msg None = takes w m'.conn.session now msg _ refl _ refl
-    decided m' msg (Some bad) = still w _ (same-births w.pad _ refl) refl
+    decided m' msg (Some bad) = refused-grows BadChangeset w n m'
 
     first : (us : List Message) → Grows w (take_first_named w now n m us)
     first [] = stays w
     first (msg ∷ up) = decided (with_conn m (with_up m.conn up)) msg (reason w.pad m.conn.session msg)
+
+overfull-grows : (w : WorldState) (n : Name) (a : Actor) → Grows w (overfull_by w n a)
+overfull-grows w n Nobody = stays w
+overfull-grows w n (Guest c) = first c.up
+  where
+    decided : (c' : Conn) (o : Option Reason) → Grows w (overfull_guest w n c' o)
+    decided c' None = refused-guest-grows w n c'
+    decided c' (Some why) = stays w
+
+    first : (us : List Message) → Grows w (overfull_first_guest w n c us)
+    first [] = stays w
+    first (msg ∷ up) = decided (with_up c up) (reason w.pad c.session msg)
+overfull-grows w n (Named m) = first m.conn.up
+  where
+    decided : (m' : Member) (o : Option Reason) → Grows w (overfull_named w n m' o)
+    decided m' None = refused-grows JournalFull w n m'
+    decided m' (Some why) = stays w
+
+    first : (us : List Message) → Grows w (overfull_first_named w n m us)
+    first [] = stays w
+    first (msg ∷ up) = decided (with_conn m (with_up m.conn up)) (reason w.pad m.conn.session msg)
 
 late-grows : (w : WorldState) (now : ℕ) (n : Name) (a : Actor) → Grows w (late_by w now n a)
 late-grows w now n Nobody = stays w
@@ -312,8 +341,9 @@ happens-grows w (Login now n) = login-grows w now n (w.actors n)
 happens-grows w (Visit now n read_only) = visit-as-grows w now n read_only (w.actors n)
 happens-grows w (Edits n e) = edit-grows w n e (w.actors n)
 happens-grows w (Submit n) = submit-grows w n (w.actors n)
-happens-grows w (Inject n base change) = inject-grows w n base change (w.actors n)
+happens-grows w (Inject n base read) = inject-grows w n base read (w.actors n)
 happens-grows w (Take now n) = take-grows w now n (w.actors n)
+happens-grows w (Overfull n) = overfull-grows w n (w.actors n)
 happens-grows w (Late now n) = late-grows w now n (w.actors n)
 happens-grows w (Push n) = push-grows w n (w.actors n)
 happens-grows w (Hear n) = hear-grows w n (w.actors n)

@@ -189,7 +189,7 @@ good-closing word b pad taken edits n m g = go m.conn.closed refl
         turn-closed h (inr (inl q)) = inr (inl (q.0, goes-closed word (Ahead b m) m.conn.down (subst (λ t. Goes t (Ahead b m) m.conn.down) h q.1), q.2))
         turn-closed h (inr (inr q)) = inr (inr (q.0, (q.1.0, q.1.1, spent-closed word q.1.0.4.0.head q.1.1 (Ahead b m) m.conn.down (subst (λ t. GoesSpent t q.1.0.4.0.head q.1.1 (Ahead b m) m.conn.down) h q.1.2), q.1.3)))
 
-session-closing : (word : Word) (c : Conn) → (closing word c).session ≡ c.session
+pub session-closing : (word : Word) (c : Conn) → (closing word c).session ≡ c.session
 session-closing word c = go c.closed
   where
     go : (t : Bool) → (if t then c else record c { down = c.down ++ Closing word ∷ []; closed = true }).session ≡ c.session
@@ -728,7 +728,7 @@ lose-good w n (Named m) g i =
 pub reason-none : (pad : PadState) (s : Session) (msg : Message) → reason pad s msg ≡ None → (is_edit msg.change.edit ≡ true) × (refusal pad s msg.base msg.change ≡ None)
 reason-none pad s msg e = go (is_edit msg.change.edit) (refusal pad s msg.base msg.change) e
   where
-    go : (t : Bool) (o : Option PadBad) → (if t then pad_reason o else Some Unread) ≡ None → (t ≡ true) × (o ≡ None)
+    go : (t : Bool) (o : Option PadBad) → (if t then pad_reason o else Some (Unread msg.unread)) ≡ None → (t ≡ true) × (o ≡ None)
     go true None e = (refl, refl)
     go true (Some bad) e = none_some (sym e)
     go false o e = none_some (sym e)

@@ -1,6 +1,7 @@
 -- Kept clients stand for the world's, whatever happens.
-use Rattle.std.proofs.Common.{◌≡◌, ℕ, suc, ◌≤◌, Bool, true, false, not, ◌&&◌, ◌||◌, nat_lt, if◌then◌else◌, List, [], ◌∷◌, ◌++◌, ◌⊎◌, inl, inr, length, Option, Some, None, refl, sym, ap, ◌∙◌, subst, T, ◌==◌}
+use Rattle.std.proofs.Common.{◌≡◌, ℕ, suc, ◌≤◌, Bool, true, false, not, ◌&&◌, ◌||◌, nat_lt, if◌then◌else◌, List, [], ◌∷◌, ◌++◌, ◌⊎◌, inl, inr, length, Option, Some, None, Result, refl, sym, ap, ◌∙◌, subst, T, ◌==◌}
 use Rattle.ep_cs.specs.Edit.{Edit, apply, identity}
+use Rattle.ep_csread.specs.declared.bad.ReadBad.{ReadBad}
 use Rattle.ep_history.specs.Accept.{committed}
 use Rattle.ep_history.specs.Client.{ClientState, dropped, edited, hear_other, hear_own, heard, is_own, lost, resumed, resumes, sends, started, submission, submitted, submitted_from, view, without_sent}
 use Rattle.ep_history.specs.Entry.{opened}
@@ -14,11 +15,11 @@ use Rattle.ep_history.specs.Refusals.{login_fault, resume_fault}
 use Rattle.ep_history.specs.Server.{create_fault, gone_fault, set_fault, set_text}
 use Rattle.ep_schedule.specs.Headline.{Extends, after}
 use Rattle.ep_schedule.specs.Kepts.{AreKept, AreSubmittedAlike, IsSameSubmission, KeepsActor, Kepts, kept_after_submit, kept_edit, kept_happens, kept_hear, kept_hear_first, kept_login, kept_login_if, kept_lose, kept_put, kept_resume, kept_resume_if, kept_submit, nobodies, run_kept}
-use Rattle.ep_schedule.specs.World.{Actor, Conn, Down, Event, Member, Message, Name, Reason, WorldState, answered, author_of, change_or_none, closing, crashed, cut_off, edit_by, grant_of, happens, hear_by, hear_first, if_text, inject_by, known_after, late_as, late_by, late_first, late_of, login_as, login_if, lose_by, lost_member, new_conn, new_member, pad_if, push_as, push_by, push_login, push_next, push_turn, put, reason, resume_as, resume_by, resume_if, resume_member, run, sending, sent_up, spending, start, stop_as, stop_by, stop_conn, stopped, submit_as, submit_by, submit_if, take_by, take_first_guest, take_first_named, take_guest, take_named, visit, visit_as, visit_if, with_actor, with_client, with_conn, with_down, with_earlier, with_up}
+use Rattle.ep_schedule.specs.World.{Actor, Conn, Down, Event, Member, Message, Name, Reason, Word, WorldState, answered, author_of, closing, crashed, cut_off, edit_by, grant_of, happens, hear_by, hear_first, if_text, inject_by, injected, known_after, late_as, late_by, late_first, late_of, login_as, login_if, lose_by, lost_member, new_conn, new_member, overfull_by, overfull_first_guest, overfull_first_named, overfull_guest, overfull_named, pad_if, push_as, push_by, push_login, push_next, push_turn, put, reason, refused_guest, refused_named, resume_as, resume_by, resume_if, resume_member, run, sending, sent_up, spending, start, stop_as, stop_by, stop_conn, stopped, submit_as, submit_by, submit_if, take_by, take_first_guest, take_first_named, take_guest, take_named, visit, visit_as, visit_if, with_actor, with_client, with_conn, with_down, with_earlier, with_up}
 use Rattle.ep_schedule.specs.World.Actor.{Guest, Named, Nobody}
 use Rattle.ep_schedule.specs.World.Down.{Closing, Revision, Spent}
-use Rattle.ep_schedule.specs.World.Event.{Create, Delete, Edits, Hear, Inject, Late, Login, Lose, Push, Resume, SetText, Stop, Submit, Take, Visit}
-use Rattle.ep_schedule.specs.World.Word.{BadChangeset, PadDeleted, UserDup}
+use Rattle.ep_schedule.specs.World.Event.{Create, Delete, Edits, Hear, Inject, Late, Login, Lose, Overfull, Push, Resume, SetText, Stop, Submit, Take, Visit}
+use Rattle.ep_schedule.specs.World.Word.{BadChangeset, JournalFull, PadDeleted, UserDup}
 use Rattle.ep_history.specs.declared.seat.Why.TheVariants.{Deleted, Left, Reopened, Replaced}
 use Rattle.ep_history.proofs.Lists.{none_some, some_same}
 use Rattle.ep_cs.proofs.Identity.{apply-identity}
@@ -358,10 +359,17 @@ visit-kept w now ks n read_only a g h = by a
     by Nobody = guest
     by (Guest c) = guest
 
-inject-kept : (w : WorldState) (ks : Kepts) (n : Name) (base : ℕ) (change : Option Change) (a : Actor) → IsGoodWorld w → AreKept w ks → AreKept (inject_by w n base change a) ks
-inject-kept w ks n base change Nobody g h = h
-inject-kept w ks n base change (Named m) g h = h
-inject-kept w ks n base change (Guest c) g h = same-put w w.pad ks n (Guest (with_up c (c.up ++ record { number = suc (length w.edits); base = base; change = change_or_none change } ∷ []))) g (same w) tt h
+inject-kept : (w : WorldState) (ks : Kepts) (n : Name) (base : ℕ) (read : Result Change ReadBad) (a : Actor) → IsGoodWorld w → AreKept w ks → AreKept (inject_by w n base read a) ks
+inject-kept w ks n base read Nobody g h = h
+inject-kept w ks n base read (Named m) g h = h
+inject-kept w ks n base read (Guest c) g h = same-put w w.pad ks n (Guest (with_up c (c.up ++ injected (suc (length w.edits)) base read ∷ []))) g (same w) tt h
+
+refused-kept : (word : Word) (w : WorldState) (ks : Kepts) (n : Name) (m : Member) (conn : Conn) → IsGoodWorld w → AreKept w ks → w.actors n ≡ Named m → AreKept (refused_named word w n (with_conn m conn)) ks
+refused-kept word w ks n m conn g h i =
+    same-put w (leave w.pad conn.session) ks n (Named (with_conn m (closing word conn))) g (leave-extends w.pad conn.session) (is-same w n (Named m) (Named (with_conn m (closing word conn))) i (refl, refl)) h
+
+refused-guest-kept : (w : WorldState) (ks : Kepts) (n : Name) (c : Conn) → IsGoodWorld w → AreKept w ks → AreKept (refused_guest w n c) ks
+refused-guest-kept w ks n c g h = same-put w (leave w.pad c.session) ks n (Guest c) g (leave-extends w.pad c.session) tt h
 
 take-kept : (w : WorldState) (now : ℕ) (ks : Kepts) (n : Name) (a : Actor) → IsGoodWorld w → AreKept w ks → w.actors n ≡ a → AreKept (take_by w now n a) ks
 take-kept w now ks n Nobody g h i = h
@@ -369,7 +377,7 @@ take-kept w now ks n (Guest c) g h i = first c.up
   where
     decided : (c' : Conn) (msg : Message) (o : Option Reason) → AreKept (take_guest w now n c' msg o) ks
     decided c' msg None = same-put w (committed w.pad c'.session now msg.base msg.change) ks n (Guest c') g (commit-extends w.pad c'.session now msg.base msg.change) tt h
-    decided c' msg (Some bad) = same-put w (leave w.pad c'.session) ks n (Guest c') g (leave-extends w.pad c'.session) tt h
+    decided c' msg (Some bad) = refused-guest-kept w ks n c' g h
 
     first : (us : List Message) → AreKept (take_first_guest w now n c us) ks
     first [] = h
@@ -378,11 +386,32 @@ take-kept w now ks n (Named m) g h i = first m.conn.up
   where
     decided : (conn : Conn) (msg : Message) (o : Option Reason) → AreKept (take_named w now n (with_conn m conn) msg o) ks
     decided conn msg None = same-put w (committed w.pad conn.session now msg.base msg.change) ks n (Named (with_conn m conn)) g (commit-extends w.pad conn.session now msg.base msg.change) (is-same w n (Named m) (Named (with_conn m conn)) i (refl, refl)) h
-    decided conn msg (Some bad) = same-put w (leave w.pad conn.session) ks n (Named (with_conn m (closing BadChangeset conn))) g (leave-extends w.pad conn.session) (is-same w n (Named m) (Named (with_conn m (closing BadChangeset conn))) i (refl, refl)) h
+    decided conn msg (Some bad) = refused-kept BadChangeset w ks n m conn g h i
 
     first : (us : List Message) → AreKept (take_first_named w now n m us) ks
     first [] = h
     first (msg ∷ up) = decided (with_up m.conn up) msg (reason w.pad m.conn.session msg)
+
+overfull-kept : (w : WorldState) (ks : Kepts) (n : Name) (a : Actor) → IsGoodWorld w → AreKept w ks → w.actors n ≡ a → AreKept (overfull_by w n a) ks
+overfull-kept w ks n Nobody g h i = h
+overfull-kept w ks n (Guest c) g h i = first c.up
+  where
+    decided : (c' : Conn) (o : Option Reason) → AreKept (overfull_guest w n c' o) ks
+    decided c' None = refused-guest-kept w ks n c' g h
+    decided c' (Some why) = h
+
+    first : (us : List Message) → AreKept (overfull_first_guest w n c us) ks
+    first [] = h
+    first (msg ∷ up) = decided (with_up c up) (reason w.pad c.session msg)
+overfull-kept w ks n (Named m) g h i = first m.conn.up
+  where
+    decided : (conn : Conn) (o : Option Reason) → AreKept (overfull_named w n (with_conn m conn) o) ks
+    decided conn None = refused-kept JournalFull w ks n m conn g h i
+    decided conn (Some why) = h
+
+    first : (us : List Message) → AreKept (overfull_first_named w n m us) ks
+    first [] = h
+    first (msg ∷ up) = decided (with_up m.conn up) (reason w.pad m.conn.session msg)
 
 late-kept : (w : WorldState) (now : ℕ) (ks : Kepts) (n : Name) (a : Actor) → IsGoodWorld w → AreKept w ks → w.actors n ≡ a → AreKept (late_by w now n a) ks
 late-kept w now ks n Nobody g h i = h
@@ -485,8 +514,9 @@ happens-kept w ks (Login now n) g h = login-kept w now ks n (w.actors n) g h
 happens-kept w ks (Visit now n read_only) g h = visit-kept w now ks n read_only (w.actors n) g h
 happens-kept w ks (Edits n e) g h = edit-kept w ks n e (w.actors n) g h refl
 happens-kept w ks (Submit n) g h = submit-kept w ks n (w.actors n) g h refl
-happens-kept w ks (Inject n base change) g h = inject-kept w ks n base change (w.actors n) g h
+happens-kept w ks (Inject n base read) g h = inject-kept w ks n base read (w.actors n) g h
 happens-kept w ks (Take now n) g h = take-kept w now ks n (w.actors n) g h refl
+happens-kept w ks (Overfull n) g h = overfull-kept w ks n (w.actors n) g h refl
 happens-kept w ks (Late now n) g h = late-kept w now ks n (w.actors n) g h refl
 happens-kept w ks (Push n) g h = push-kept w ks n (w.actors n) g h refl
 happens-kept w ks (Hear n) g h = hear-kept w ks n (w.actors n) g h refl

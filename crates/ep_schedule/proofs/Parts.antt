@@ -49,7 +49,7 @@ takes-admissible w now n s msg up edit normal a = by (w.actors n) refl up
     accepted : (t : Session) (x : Message) → (t ≡ s) × (x ≡ msg) → reason w.pad t x ≡ None
     accepted t x p =
         (λ i. reason w.pad (p.0 i) (p.1 i))
-        ∙ ap (λ t. if t then pad_reason (refusal w.pad s msg.base msg.change) else Some Unread) edit
+        ∙ ap (λ t. if t then pad_reason (refusal w.pad s msg.base msg.change) else Some (Unread msg.unread)) edit
         ∙ ap pad_reason ((taken w.pad s msg.base msg.change normal).0 a)
 
     named : (m : Member) (us : List Message) → first_sent m.conn.session us ≡ Some (s, msg)
@@ -112,10 +112,10 @@ data Outcome : Option Reason → Type 0 where
   OfLong : {k : ℕ} → Outcome (Some (Refused (TooLong k)))
 
 outcome-good : {r : Option Reason} → Outcome r → IsGoodReason r
-outcome-good Good = record { read = λ e. absurd (cc e); writes = λ e. absurd (cc e); base = λ h e. absurd (cc e); fits = λ h e. absurd (cc e) }
-outcome-good OfDead = record { read = λ e. absurd (cc e); writes = λ e. absurd (cc e); base = λ h e. absurd (cc e); fits = λ h e. absurd (cc e) }
-outcome-good OfAuthor = record { read = λ e. absurd (cc e); writes = λ e. absurd (cc e); base = λ h e. absurd (cc e); fits = λ h e. absurd (cc e) }
-outcome-good OfLong = record { read = λ e. absurd (cc e); writes = λ e. absurd (cc e); base = λ h e. absurd (cc e); fits = λ h e. absurd (cc e) }
+outcome-good Good = record { read = λ why e. absurd (cc e); writes = λ e. absurd (cc e); base = λ h e. absurd (cc e); fits = λ h e. absurd (cc e) }
+outcome-good OfDead = record { read = λ why e. absurd (cc e); writes = λ e. absurd (cc e); base = λ h e. absurd (cc e); fits = λ h e. absurd (cc e) }
+outcome-good OfAuthor = record { read = λ why e. absurd (cc e); writes = λ e. absurd (cc e); base = λ h e. absurd (cc e); fits = λ h e. absurd (cc e) }
+outcome-good OfLong = record { read = λ why e. absurd (cc e); writes = λ e. absurd (cc e); base = λ h e. absurd (cc e); fits = λ h e. absurd (cc e) }
 
 -- what a live, writing session is refused for, where the base is there and the edit fits
 faults-outcome : (ro late long_ : Bool) (other : Option ℕ) (bad : Option FitBad) (h k : ℕ) → ro ≡ false → late ≡ false → bad ≡ None
@@ -150,7 +150,7 @@ module _ (w : WorldState) (n : Name) (m : Member) (g : IsGoodWorld w) (i : w.act
     seat-outcome (Some l) f = fault l f l.end refl
 
     good-reason : IsGoodReason (reason w.pad m.client.session (as_message m s))
-    good-reason = subst IsGoodReason (ap (λ t. if t then pad_reason (refusal w.pad m.client.session s.base s.change) else Some Unread) (sym is-edit)) (outcome-good (seat-outcome (seat_of w.pad m.client.session) refl))
+    good-reason = subst IsGoodReason (ap (λ t. if t then pad_reason (refusal w.pad m.client.session s.base s.change) else Some (Unread None)) (sym is-edit)) (outcome-good (seat-outcome (seat_of w.pad m.client.session) refl))
 
   pub good-fitting : AreNeverFaulty w.pad m.conn
   good-fitting msg among = go member.up

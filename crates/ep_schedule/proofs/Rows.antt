@@ -1,5 +1,5 @@
 -- Worked schedules, computed from the definitions: what is taken, refused, told and shown, and how the revisions are spelled.
-use Rattle.std.proofs.Common.{◌≡◌, ℕ, ◌+◌, Bool, true, false, not, ◌&&◌, List, [], ◌∷◌, ◌++◌, map, Option, Some, None, refl}
+use Rattle.std.proofs.Common.{◌≡◌, ℕ, ◌+◌, Bool, true, false, not, ◌&&◌, List, [], ◌∷◌, ◌++◌, map, Option, Some, None, Result, Ok, Err, refl}
 use Rattle.std.specs.Prelude.{codes}
 use Rattle.ep_units.specs.Text.{Text}
 use Rattle.ep_outside.specs.declared.limits.Limits.{Limits}
@@ -14,21 +14,25 @@ use Rattle.ep_units.specs.Base36.{write36}
 use Rattle.ep_units.specs.declared.session.Session.{Session}
 use Rattle.ep_attr.specs.AttrMap.{AttrMap, none, insert, is_none}
 use Rattle.ep_cs.specs.declared.bad.FitBad.TheVariants.{CutsPair}
+use Rattle.ep_csread.specs.declared.bad.ReadBad.{ReadBad}
+use Rattle.ep_csread.specs.declared.bad.ReadBad.TheVariants.{Syntax}
 use Rattle.ep_history.specs.Lists.{at}
 use Rattle.ep_history.specs.History.{head, head_doc}
 use Rattle.ep_history.specs.Pad.{newest, birth_at}
 use Rattle.ep_history.specs.Refusals.{login_fault, resume_fault}
 use Rattle.ep_history.specs.declared.pad_bad.PadBad.TheVariants.{Dead, Denied, Full, Gone, ReadOnly, NoBase, Fit, TooLong}
-use Rattle.ep_history.specs.declared.seat.Why.TheVariants.{Replaced}
+use Rattle.ep_history.specs.declared.seat.Why.TheVariants.{Left, Replaced}
 use Rattle.ep_history.specs.Client.{has_local, has_sent, view}
 use Rattle.ep_schedule.specs.World.{Name, Conn, Word, Down, Message, Actor, Taken, WorldState, Event, Reason, grant_of, reason, start, run}
 use Rattle.ep_schedule.specs.World.Actor.{Nobody, Guest, Named}
 use Rattle.ep_schedule.specs.World.Down.{Revision, Spent, Closing}
 use Rattle.ep_schedule.specs.World.Reason.{Unread, Refused}
-use Rattle.ep_schedule.specs.World.Word.{PadDeleted}
-use Rattle.ep_schedule.specs.World.Event.{Create, SetText, Delete, Login, Visit, Edits, Submit, Inject, Take, Late, Push, Hear, Lose, Resume, Stop}
+use Rattle.ep_schedule.specs.World.Word.{JournalFull, PadDeleted}
+use Rattle.ep_schedule.specs.World.Event.{Create, SetText, Delete, Login, Visit, Edits, Submit, Inject, Take, Overfull, Late, Push, Hear, Lose, Resume, Stop}
 use Rattle.ep_history.specs.declared.rev.Rev.{Rev}
 use Rattle.ep_history.specs.declared.nop.Nop.{Nop}
+use Rattle.ep_history.specs.declared.seat.Seat.{Seat}
+use Rattle.ep_history.specs.declared.seat.Why.{Why}
 use Rattle.ep_history.specs.declared.submission.Submission.{Submission}
 
 abbrev limits : Limits
@@ -303,6 +307,22 @@ dropped_resumes = refl
 dropped_again : is_connected ((after (dropped ++ Hear A ∷ Create 6 (codes "b") ∷ Resume A ∷ [])).actors A) ≡ false
 dropped_again = refl
 
+-- a journal without room for it: a message is gone, its session left and its client told; later it is sent again
+abbrev overfull : List Event
+overfull = Create 1 (codes "ab") ∷ Login 2 A ∷ inserts A 3 1 (codes "X") ∷ Submit A ∷ Overfull A ∷ []
+
+abbrev ends : WorldState → List (Option Why)
+ends w = map (λ (l : Seat). l.end) w.pad.sessions
+
+overfull_gone : (first_up ((after overfull).actors A) ≡ []) × (head (newest (after overfull).pad) ≡ 0) × ((after overfull).known ≡ [])
+overfull_gone = (refl, refl, refl)
+
+overfull_told : (closings ((after overfull).actors A) ≡ JournalFull ∷ []) × (ends (after overfull) ≡ Some Left ∷ [])
+overfull_told = (refl, refl)
+
+overfull_again : head_text (after (overfull ++ Hear A ∷ Resume A ∷ Submit A ∷ Take 9 A ∷ [])) ≡ codes "aXb\n"
+overfull_again = refl
+
 -- a crash: the submission is sent again where its record was lost, and is heard where it was kept
 abbrev crash : Bool → List Event
 crash kept = Create 1 (codes "ab") ∷ Login 2 A ∷ inserts A 3 1 (codes "X") ∷ Submit A ∷ Stop 5 (Some A) kept ∷ Resume A ∷ Push A ∷ Hear A ∷ Submit A ∷ []
@@ -420,25 +440,35 @@ crash_clean true = refl
 crash_clean false = refl
 
 -- refusals
-abbrev guest : ℕ → Option Change → WorldState
-guest base c = after (Create 1 (codes "ab") ∷ Visit 2 G false ∷ Inject G base c ∷ [])
+abbrev guest : ℕ → Result Change ReadBad → WorldState
+guest base read = after (Create 1 (codes "ab") ∷ Visit 2 G false ∷ Inject G base read ∷ [])
 
-no_base : refused (guest 1 (Some (stamped (splice 3 1 0 (plain (codes "X"))) (codes "ab\n")))) ((guest 1 (Some (stamped (splice 3 1 0 (plain (codes "X"))) (codes "ab\n")))).actors G) ≡ Some (Refused (NoBase 0))
+no_base : refused (guest 1 (Ok (stamped (splice 3 1 0 (plain (codes "X"))) (codes "ab\n")))) ((guest 1 (Ok (stamped (splice 3 1 0 (plain (codes "X"))) (codes "ab\n")))).actors G) ≡ Some (Refused (NoBase 0))
 no_base = refl
 
 -- from another guest with the base that is there it is taken
-other_guest : head_text (after (Create 1 (codes "ab") ∷ Visit 2 G false ∷ Inject G 0 (Some (stamped (splice 3 1 0 (plain (codes "X"))) (codes "ab\n"))) ∷ Take 4 G ∷ [])) ≡ codes "aXb\n"
+other_guest : head_text (after (Create 1 (codes "ab") ∷ Visit 2 G false ∷ Inject G 0 (Ok (stamped (splice 3 1 0 (plain (codes "X"))) (codes "ab\n"))) ∷ Take 4 G ∷ [])) ≡ codes "aXb\n"
 other_guest = refl
 
-unread : refused (guest 0 None) ((guest 0 None).actors G) ≡ Some Unread
+unread : refused (guest 0 (Err (Syntax 0))) ((guest 0 (Err (Syntax 0))).actors G) ≡ Some (Unread (Some (Syntax 0)))
 unread = refl
 
-cuts : refused (after (Create 1 (97 ∷ 55357 ∷ 56832 ∷ []) ∷ Visit 2 G false ∷ Inject G 0 (Some (stamped (splice 4 2 0 (plain (codes "x"))) (97 ∷ 55357 ∷ 56832 ∷ 10 ∷ []))) ∷ []))
-    ((after (Create 1 (97 ∷ 55357 ∷ 56832 ∷ []) ∷ Visit 2 G false ∷ Inject G 0 (Some (stamped (splice 4 2 0 (plain (codes "x"))) (97 ∷ 55357 ∷ 56832 ∷ 10 ∷ []))) ∷ [])).actors G) ≡ Some (Refused (Fit (CutsPair 2)))
+-- the journal is asked last
+abbrev without_room : Result Change ReadBad → List ℕ × List (Option Why)
+without_room read = let w = run (Overfull G ∷ []) (guest 0 read) in (map (λ (msg : Message). msg.base) (first_up (w.actors G)), ends w)
+
+overfull_unread : without_room (Err (Syntax 0)) ≡ (0 ∷ [], None ∷ [])
+overfull_unread = refl
+
+overfull_read : without_room (Ok (stamped (splice 3 1 0 (plain (codes "X"))) (codes "ab\n"))) ≡ ([], Some Left ∷ [])
+overfull_read = refl
+
+cuts : refused (after (Create 1 (97 ∷ 55357 ∷ 56832 ∷ []) ∷ Visit 2 G false ∷ Inject G 0 (Ok (stamped (splice 4 2 0 (plain (codes "x"))) (97 ∷ 55357 ∷ 56832 ∷ 10 ∷ []))) ∷ []))
+    ((after (Create 1 (97 ∷ 55357 ∷ 56832 ∷ []) ∷ Visit 2 G false ∷ Inject G 0 (Ok (stamped (splice 4 2 0 (plain (codes "x"))) (97 ∷ 55357 ∷ 56832 ∷ 10 ∷ []))) ∷ [])).actors G) ≡ Some (Refused (Fit (CutsPair 2)))
 cuts = refl
 
-reader : refused (after (Create 1 (codes "ab") ∷ Visit 2 G true ∷ Inject G 0 (Some (stamped (splice 3 1 0 (plain (codes "X"))) (codes "ab\n"))) ∷ []))
-    ((after (Create 1 (codes "ab") ∷ Visit 2 G true ∷ Inject G 0 (Some (stamped (splice 3 1 0 (plain (codes "X"))) (codes "ab\n"))) ∷ [])).actors G) ≡ Some (Refused ReadOnly)
+reader : refused (after (Create 1 (codes "ab") ∷ Visit 2 G true ∷ Inject G 0 (Ok (stamped (splice 3 1 0 (plain (codes "X"))) (codes "ab\n"))) ∷ []))
+    ((after (Create 1 (codes "ab") ∷ Visit 2 G true ∷ Inject G 0 (Ok (stamped (splice 3 1 0 (plain (codes "X"))) (codes "ab\n"))) ∷ [])).actors G) ≡ Some (Refused ReadOnly)
 reader = refl
 
 no_reader : login_fault (start limits (codes "pad")).pad (grant_of (start limits (codes "pad")) G true) ≡ Some (Denied 4)

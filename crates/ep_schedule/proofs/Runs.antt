@@ -16,7 +16,7 @@ use Rattle.ep_schedule.specs.Headline.{IsMarkedRev}
 use Rattle.ep_schedule.proofs.Marks.{AreKnown}
 use Rattle.ep_schedule.specs.World.{Actor, Conn, Event, Member, Message, Name, Reason, Taken, WorldState, author_of, crashed, cut_conn, cut_off, grant_of, happens, if_text, login, login_as, login_if, lost_member, mark, new_conn, new_member, pad_if, put, reason, resume_as, resume_by, resume_if, resume_member, run, start, stop_as, stop_by, stop_conn, stopped, taking, visit, visit_as, visit_if, with_actor, with_conn, with_pad, with_up}
 use Rattle.ep_schedule.specs.World.Actor.{Guest, Named, Nobody}
-use Rattle.ep_schedule.specs.World.Event.{Create, Delete, Edits, Hear, Inject, Late, Login, Lose, Push, Resume, SetText, Stop, Submit, Take, Visit}
+use Rattle.ep_schedule.specs.World.Event.{Create, Delete, Edits, Hear, Inject, Late, Login, Lose, Overfull, Push, Resume, SetText, Stop, Submit, Take, Visit}
 use Rattle.ep_history.proofs.Lists.{none_some, some_same, at-below, at-grown}
 use Rattle.ep_cs.proofs.EditFits.{fits_true}
 use Rattle.ep_history.proofs.Client.{sound-without, IsSound, IsSound}
@@ -34,7 +34,7 @@ use Rattle.ep_schedule.proofs.Good.{keep-actor, longer-nil}
 use Rattle.ep_schedule.proofs.Clients.{both_ways, and_first, and_second, edit-good, submit-good}
 use Rattle.ep_schedule.proofs.Hears.{not-spent, was-spent, push-good, hear-good, lose-good, late-good, good-lost-member, lost-same}
 use Rattle.ep_schedule.proofs.Seats.{revs-nops, was-seated, known-seated, new-known, new-seat, new-or-old, new-unknown, was-deleted, known-deleted, none-reopened, known-reopened, grown-pad, leaves-revs}
-use Rattle.ep_schedule.proofs.Takes.{take-good, take-named-good, take-guest-good, inject-good}
+use Rattle.ep_schedule.proofs.Takes.{overfull-good, take-good, take-named-good, take-guest-good, inject-good}
 use Rattle.ep_units.specs.declared.session.Session.{Session}
 use Rattle.ep_outside.specs.declared.limits.Limits.{Limits}
 use Rattle.ep_history.specs.declared.rev.Rev.{Rev}
@@ -623,8 +623,9 @@ happens-good w (Login now n) g = login-as-good w now n (w.actors n) g
 happens-good w (Visit now n read_only) g = visit-as-good w now n read_only (w.actors n) g
 happens-good w (Edits n e) g = edit-good w n e (w.actors n) g refl
 happens-good w (Submit n) g = submit-good w n (w.actors n) g refl
-happens-good w (Inject n base change) g = inject-good w n base change (w.actors n) g refl
+happens-good w (Inject n base read) g = inject-good w n base read (w.actors n) g refl
 happens-good w (Take now n) g = take-good w now n (w.actors n) g refl
+happens-good w (Overfull n) g = overfull-good w n (w.actors n) g refl
 happens-good w (Late now n) g = late-good w now n (w.actors n) g refl
 happens-good w (Push n) g = push-good w n (w.actors n) g refl
 happens-good w (Hear n) g = hear-good w n (w.actors n) g refl

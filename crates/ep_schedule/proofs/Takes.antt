@@ -1,5 +1,5 @@
 -- Takes: what is taken, and what is refused.
-use Rattle.std.proofs.Common.{◌≡◌, ℕ, suc, ◌<◌, ◌≤◌, Bool, true, false, nat_lt, if◌then◌else◌, List, [], ◌∷◌, ◌++◌, ◌⊎◌, inl, inr, length, drop, Option, Some, None, refl, sym, ap, ◌∙◌, subst, arith}
+use Rattle.std.proofs.Common.{◌≡◌, ℕ, suc, ◌<◌, ◌≤◌, Bool, true, false, nat_lt, if◌then◌else◌, List, [], ◌∷◌, ◌++◌, ◌⊎◌, inl, inr, length, drop, Option, Some, None, Result, refl, sym, ap, ◌∙◌, subst, arith}
 use Rattle.std.proofs.lemmas.List.{length-append, take-append-le}
 use Rattle.ep_cs.specs.Doc.{Doc}
 use Rattle.ep_cs.specs.Edit.{Edit, apply, identity}
@@ -10,10 +10,9 @@ use Rattle.ep_history.specs.Pad.{with_nops, with_revs, PadState, birth_at, leave
 use Rattle.ep_history.specs.declared.pad_bad.PadBad.TheVariants.{NoBase}
 use Rattle.ep_schedule.specs.Headline.{AreNopsMarked, AreRevsMarked, IsMarked, IsMarkedRev, IsOneCarrier, IsByMaker, AreApart, IsRebased}
 use Rattle.ep_schedule.proofs.Marks.{AreKnown, in-among}
-use Rattle.ep_schedule.specs.World.{Actor, Conn, Member, Message, Name, Reason, Taken, WorldState, author_of, closing, inject_by, mark, put, reason, take_by, take_first_guest, take_first_named, take_guest, take_named, with_actor, with_conn, with_pad, with_up}
-use Rattle.ep_schedule.specs.World.Word.{BadChangeset}
+use Rattle.ep_schedule.specs.World.{Actor, Conn, Member, Message, Name, Reason, Taken, Word, WorldState, author_of, closing, inject_by, mark, put, reason, overfull_by, overfull_first_guest, overfull_first_named, overfull_guest, overfull_named, refused_guest, refused_named, take_by, take_first_guest, take_first_named, take_guest, take_named, with_actor, with_conn, with_pad, with_up}
+use Rattle.ep_schedule.specs.World.Word.{BadChangeset, JournalFull}
 use Rattle.ep_schedule.specs.World.Actor.{Guest, Named, Nobody}
-use Rattle.ep_schedule.specs.World.Down.{Closing}
 use Rattle.ep_history.proofs.Lists.{none_some, some_same, at-below, at-grown, at-new, at-past}
 use Rattle.ep_cs.proofs.EditFits.{IsFit}
 use Rattle.ep_cs.proofs.Identity.{only_identity}
@@ -22,12 +21,13 @@ use Rattle.ep_schedule.proofs.Good.{IsOf, Turn, own_nops, Ahead, IsKnown, Goes, 
 use Rattle.ep_history.proofs.Client.{next-doc}
 use Rattle.ep_history.proofs.Births.{rebase-fits, revs-at, revs-newest, revs-count, noting, nops-newest, nops-at, nops-count, sound-noting}
 use Rattle.ep_schedule.proofs.Clients.{edits-step, fresh-number, turn-quiet, is_same}
-use Rattle.ep_schedule.proofs.Hears.{reason-none, good-closing}
+use Rattle.ep_schedule.proofs.Hears.{reason-none, good-closing, session-closing}
 use Rattle.ep_history.proofs.Refused.{AreNone, refusal-live, not-if, not-less, no-bad, unrefused}
 use Rattle.ep_schedule.proofs.Seats.{login-known, was-left, known-left, known-revs, revs-nops, known-nops, noted-pad, leaves-nops, at-step, grown-pad, leaves-revs}
 use Rattle.ep_units.specs.declared.session.Session.{Session}
 use Rattle.ep_cs.specs.Change.{Change}
 use Rattle.ep_cs.specs.Fits.{is_identity}
+use Rattle.ep_csread.specs.declared.bad.ReadBad.{ReadBad}
 use Rattle.ep_history.specs.declared.nop.Nop.{Nop}
 use Rattle.ep_cs.specs.Fitting.{fit_bad}
 use Rattle.ep_history.specs.declared.rev.Rev.{Rev}
@@ -535,6 +535,17 @@ good-left b pad taken edits n m t g = record {
     cleared (inr (inl x)) = let p = x.2.0 in inr (inl (x.0, x.1, ((p.0, p.1, p.2, refl, p.4), x.2.1, x.2.2, x.2.3, x.2.4)))
     cleared (inr (inr x)) = let p = x.1.0 in inr (inr (x.0, ((p.0, p.1, p.2, refl, p.4), x.1.1, x.1.2, x.1.3)))
 
+-- a guest's first message is refused
+refused-guest-good : (w : WorldState) (n : Name) (c : Conn) (msg : Message) (up : List Message) → IsGoodWorld w → w.actors n ≡ Guest c → c.up ≡ msg ∷ up → IsGoodWorld (refused_guest w n (with_up c up))
+refused-guest-good w n c msg up g i q =
+    let gc : IsGoodGuest w.pad w.taken w.edits n c = at-name w n (Guest c) g i in
+    refused-step w n (Guest (with_up c up)) c.session g
+    (record {
+      known = known-left w.pad c.session c.session gc.known;
+      mine = λ l e. let o = was-left w.pad c.session c.session l e in sym o.author ∙ gc.mine o.old o.found;
+      up = (subst (λ us. AreFresh w.taken w.edits n us) q gc.up).3;
+    }) (sym (ap session_of i))
+
 -- ---- takes
 
 only : (b : Birth) (pad : PadState) (taken : List Taken) (edits : List Name) (n : Name) (m : Member) (msg : Message) (up : List Message) → IsGood b pad taken edits n m → m.conn.up ≡ msg ∷ up
@@ -553,6 +564,18 @@ only b pad taken edits n m msg up g q = go g.up
         rest_of : List Message → List Message
         rest_of [] = []
         rest_of (x ∷ xs) = xs
+
+-- a client's first message is refused, whatever the word
+refused-named-good : (word : Word) (w : WorldState) (n : Name) (m : Member) (msg : Message) (up : List Message) → IsGoodWorld w → w.actors n ≡ Named m → m.conn.up ≡ msg ∷ up
+    → IsGoodWorld (refused_named word w n (with_conn m (with_up m.conn up)))
+refused-named-good word w n m msg up g i q =
+    let gm : IsGood (birth_at w.pad m.birth) w.pad w.taken w.edits n m = at-name w n (Named m) g i in
+    let o = only (birth_at w.pad m.birth) w.pad w.taken w.edits n m msg up gm q in
+    refused-step w n (Named (with_conn (with_conn m (with_up m.conn up)) (closing word (with_up m.conn up)))) m.conn.session g
+    (subst (λ us. IsGood (birth_at w.pad m.birth) (leave w.pad m.conn.session) w.taken w.edits n (with_conn (with_conn m (with_up m.conn us)) (closing word (with_up m.conn us)))) (sym o.4)
+    (good-closing word (birth_at w.pad m.birth) (leave w.pad m.conn.session) w.taken w.edits n (with_conn m (with_up m.conn []))
+    (good-left (birth_at w.pad m.birth) w.pad w.taken w.edits n m m.conn.session gm)))
+    (ap Some (session-closing word (with_up m.conn up)) ∙ sym (ap session_of i))
 
 pub take-named-good : (w : WorldState) (now : ℕ) (n : Name) (m : Member) (known : List ℕ) (msg : Message) (up : List Message) → IsGoodWorld w → w.actors n ≡ Named m → m.conn.up ≡ msg ∷ up
     → reason w.pad m.conn.session msg ≡ None → AreKnown known (mark w.pad m.conn.session now msg ∷ w.taken)
@@ -625,50 +648,49 @@ take-guest-good w now n c known msg up g i q r kn =
     actor false = record { known = known-revs w.pad _ c.session gc.known; mine = gc.mine; up = fresh-after false w.pad c.session now w.taken w.edits n msg up f.2 f.3 }
     actor true = record { known = known-nops w.pad _ c.session gc.known; mine = gc.mine; up = fresh-after true w.pad c.session now w.taken w.edits n msg up f.2 f.3 }
 
-session-closing : (c : Conn) → (closing BadChangeset c).session ≡ c.session
-session-closing c = go c.closed
-  where
-    go : (t : Bool) → (if t then c else record c { down = c.down ++ Closing BadChangeset ∷ []; closed = true }).session ≡ c.session
-    go true = refl
-    go false = refl
-
 pub take-good : (w : WorldState) (now : ℕ) (n : Name) (a : Actor) → IsGoodWorld w → w.actors n ≡ a → IsGoodWorld (take_by w now n a)
 take-good w now n Nobody g i = g
 take-good w now n (Guest c) g i = first c.up refl
   where
-    gc : IsGoodGuest w.pad w.taken w.edits n c
-    gc = at-name w n (Guest c) g i
-
     decided : (msg : Message) (up : List Message) → c.up ≡ msg ∷ up → (o : Option Reason) → reason w.pad c.session msg ≡ o → IsGoodWorld (take_guest w now n (with_up c up) msg o)
     decided msg up q None r = take-guest-good w now n c (msg.number ∷ w.known) msg up g i q r (knows-mark w c.session now msg g)
-    decided msg up q (Some bad) r = refused-step w n _ c.session g
-        (record {
-          known = known-left w.pad c.session c.session gc.known;
-          mine = λ l e. let o = was-left w.pad c.session c.session l e in sym o.author ∙ gc.mine o.old o.found;
-          up = (subst (λ us. AreFresh w.taken w.edits n us) q gc.up).3;
-        }) (sym (ap session_of i))
+    decided msg up q (Some bad) r = refused-guest-good w n c msg up g i q
 
     first : (us : List Message) → c.up ≡ us → IsGoodWorld (take_first_guest w now n c us)
     first [] q = g
     first (msg ∷ up) q = decided msg up q (reason w.pad c.session msg) refl
 take-good w now n (Named m) g i = first m.conn.up refl
   where
-    gm : IsGood (birth_at w.pad m.birth) w.pad w.taken w.edits n m
-    gm = at-name w n (Named m) g i
-
     decided : (msg : Message) (up : List Message) → m.conn.up ≡ msg ∷ up → (o : Option Reason) → reason w.pad m.conn.session msg ≡ o → IsGoodWorld (take_named w now n (with_conn m (with_up m.conn up)) msg o)
     decided msg up q None r = take-named-good w now n m (msg.number ∷ w.known) msg up g i q r (knows-mark w m.conn.session now msg g)
-    decided msg up q (Some bad) r =
-        let o = only (birth_at w.pad m.birth) w.pad w.taken w.edits n m msg up gm q in
-        refused-step w n (Named (with_conn (with_conn m (with_up m.conn up)) (closing BadChangeset (with_up m.conn up)))) m.conn.session g
-        (subst (λ us. IsGood (birth_at w.pad m.birth) (leave w.pad m.conn.session) w.taken w.edits n (with_conn (with_conn m (with_up m.conn us)) (closing BadChangeset (with_up m.conn us)))) (sym o.4)
-        (good-closing BadChangeset (birth_at w.pad m.birth) (leave w.pad m.conn.session) w.taken w.edits n (with_conn m (with_up m.conn []))
-        (good-left (birth_at w.pad m.birth) w.pad w.taken w.edits n m m.conn.session gm)))
-        (ap Some (session-closing (with_up m.conn up)) ∙ sym (ap session_of i))
+    decided msg up q (Some bad) r = refused-named-good BadChangeset w n m msg up g i q
 
     first : (us : List Message) → m.conn.up ≡ us → IsGoodWorld (take_first_named w now n m us)
     first [] q = g
     first (msg ∷ up) q = decided msg up q (reason w.pad m.conn.session msg) refl
+
+-- ---- a journal without room
+
+pub overfull-good : (w : WorldState) (n : Name) (a : Actor) → IsGoodWorld w → w.actors n ≡ a → IsGoodWorld (overfull_by w n a)
+overfull-good w n Nobody g i = g
+overfull-good w n (Guest c) g i = first c.up refl
+  where
+    decided : (msg : Message) (up : List Message) → c.up ≡ msg ∷ up → (o : Option Reason) → IsGoodWorld (overfull_guest w n (with_up c up) o)
+    decided msg up q None = refused-guest-good w n c msg up g i q
+    decided msg up q (Some why) = g
+
+    first : (us : List Message) → c.up ≡ us → IsGoodWorld (overfull_first_guest w n c us)
+    first [] q = g
+    first (msg ∷ up) q = decided msg up q (reason w.pad c.session msg)
+overfull-good w n (Named m) g i = first m.conn.up refl
+  where
+    decided : (msg : Message) (up : List Message) → m.conn.up ≡ msg ∷ up → (o : Option Reason) → IsGoodWorld (overfull_named w n (with_conn m (with_up m.conn up)) o)
+    decided msg up q None = refused-named-good JournalFull w n m msg up g i q
+    decided msg up q (Some why) = g
+
+    first : (us : List Message) → m.conn.up ≡ us → IsGoodWorld (overfull_first_named w n m us)
+    first [] q = g
+    first (msg ∷ up) q = decided msg up q (reason w.pad m.conn.session msg)
 
 -- ---- what a guest sends
 
@@ -689,9 +711,9 @@ fresh-more taken edits n (x ∷ up) msg u e f =
     apart (y ∷ us) d o (inl h) k = d o (inl h) k
     apart (y ∷ us) d o (inr h) k = apart us (λ p i. d p (inr i)) o h k
 
-pub inject-good : (w : WorldState) (n : Name) (base : ℕ) (change : Option Change) (a : Actor) → IsGoodWorld w → w.actors n ≡ a → IsGoodWorld (inject_by w n base change a)
-inject-good w n base change Nobody g i = g
-inject-good w n base change (Named m) g i = g
-inject-good w n base change (Guest c) g i =
+pub inject-good : (w : WorldState) (n : Name) (base : ℕ) (read : Result Change ReadBad) (a : Actor) → IsGoodWorld w → w.actors n ≡ a → IsGoodWorld (inject_by w n base read a)
+inject-good w n base read Nobody g i = g
+inject-good w n base read (Named m) g i = g
+inject-good w n base read (Guest c) g i =
     let gc : IsGoodGuest w.pad w.taken w.edits n c = at-name w n (Guest c) g i in
     edits-step w n _ g (record { known = gc.known; mine = gc.mine; up = fresh-more w.taken w.edits n c.up _ (fresh-number w g) refl gc.up }) (sym (ap session_of i))

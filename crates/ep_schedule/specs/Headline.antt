@@ -8,6 +8,7 @@ use Rattle.ep_cs.specs.EditFits.{is_edit}
 use Rattle.ep_cs.specs.Edit.{Edit, identity}
 use Rattle.ep_cs.specs.NormalRuns.{IsNormal}
 use Rattle.ep_cs.specs.declared.bad.FitBad.{FitBad}
+use Rattle.ep_csread.specs.declared.bad.ReadBad.{ReadBad}
 use Rattle.ep_history.specs.Lists.{at, numbered, Among}
 use Rattle.ep_history.specs.History.{rev_by, nop_by, head, doc_at, head_doc, rebase, lacks_newline, newline_edit, newline_rev, nobody}
 use Rattle.ep_history.specs.Pad.{PadState, birth_at}
@@ -147,7 +148,7 @@ pub record Grows (old new : WorldState) : Type 0 where
 
 -- a submission is refused for none of these
 pub record IsGoodReason (r : Option Reason) : Type 0 where
-  pub read : r ≡ Some Unread → ⊥
+  pub read : (why : Option ReadBad) → r ≡ Some (Unread why) → ⊥
   pub writes : r ≡ Some (Refused ReadOnly) → ⊥
   pub base : (h : ℕ) → r ≡ Some (Refused (NoBase h)) → ⊥
   pub fits : (why : FitBad) → r ≡ Some (Refused (Fit why)) → ⊥

@@ -13,7 +13,7 @@ use Rattle.ep_history.specs.Kept.{KeptClient, kept_started, kept_edited, kept_su
 use Rattle.ep_schedule.specs.World.{Name, Down, Member, Actor, WorldState, Event, grant_of, happens}
 use Rattle.ep_schedule.specs.World.Down.{Revision, Spent, Closing}
 use Rattle.ep_schedule.specs.World.Actor.{Nobody, Guest, Named}
-use Rattle.ep_schedule.specs.World.Event.{Create, SetText, Delete, Login, Visit, Edits, Submit, Inject, Take, Late, Push, Hear, Lose, Resume, Stop}
+use Rattle.ep_schedule.specs.World.Event.{Create, SetText, Delete, Login, Visit, Edits, Submit, Inject, Take, Overfull, Late, Push, Hear, Lose, Resume, Stop}
 
 -- the kept client of each name
 abbrev pub Kepts : Type 0
@@ -90,8 +90,9 @@ kept_happens w ks (Login now n) = kept_login w now ks n (w.actors n)
 kept_happens w ks (Visit now n read_only) = ks
 kept_happens w ks (Edits n e) = kept_edit ks n e (w.actors n)
 kept_happens w ks (Submit n) = kept_submit ks n (w.actors n)
-kept_happens w ks (Inject n base change) = ks
+kept_happens w ks (Inject n base read) = ks
 kept_happens w ks (Take now n) = ks
+kept_happens w ks (Overfull n) = ks
 kept_happens w ks (Late now n) = ks
 kept_happens w ks (Push n) = ks
 kept_happens w ks (Hear n) = kept_hear ks n (w.actors n)

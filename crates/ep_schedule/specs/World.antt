@@ -1,5 +1,5 @@
 -- The world: a pad, its clients and guests with their connections, and what may happen.
-use Rattle.std.specs.Prelude.{ℕ, suc, Bool, true, false, not, ◌&&◌, ◌==◌, if◌then◌else◌, List, [], ◌∷◌, ◌++◌, length, Option, Some, None, codes}
+use Rattle.std.specs.Prelude.{ℕ, suc, Bool, true, false, not, ◌&&◌, ◌==◌, if◌then◌else◌, List, [], ◌∷◌, ◌++◌, length, Option, Some, None, Result, Ok, Err, codes}
 use Rattle.ep_units.specs.Text.{Text, text_eq, is_well_formed}
 use Rattle.ep_units.specs.declared.session.Session.{Session}
 use Rattle.ep_units.specs.declared.grant.Grant.{Grant}
@@ -8,6 +8,7 @@ use Rattle.ep_cs.specs.Edit.{Edit}
 use Rattle.ep_cs.specs.Edit.Fate.{Drop}
 use Rattle.ep_cs.specs.Change.{Change}
 use Rattle.ep_cs.specs.Fits.{is_identity}
+use Rattle.ep_csread.specs.declared.bad.ReadBad.{ReadBad}
 use Rattle.ep_history.specs.Lists.{at}
 use Rattle.ep_history.specs.History.{By, nops_of, head, newline}
 use Rattle.ep_cs.specs.EditFits.{is_edit, fits}
@@ -33,17 +34,20 @@ Name = Text
 abbrev pub author_of : Name → Text
 author_of n = codes "a." ++ n
 
--- an edit on its way to the server, with its number
+-- an edit on its way to the server, with its number; `unread` is why its text spells no change, where it does not
 pub record Message : Type 0 where
   pub number : ℕ
   pub base : ℕ
   pub change : Change
+  pub unread : Option ReadBad
 
--- why a connection is closed: a message was refused, a newer session of the author came, or the pad was deleted
+-- why a connection is closed: a message was refused, a newer session of the author came, the pad was deleted, or the
+-- journal has no room for a message
 pub data Word : Type 0 where
   BadChangeset : Word
   UserDup : Word
   PadDeleted : Word
+  JournalFull : Word
 
 -- what goes down to a client: a revision, that its submission became nothing at a revision, or the closing
 pub data Down : Type 0 where
@@ -108,7 +112,7 @@ start limits id = record {
   known = [];
 }
 
--- what may happen, with its moment where that is told of later
+-- what may happen, with its moment where that is told of later; `Overfull` says that the journal's limit refuses a take
 pub data Event : Type 0 where
   Create : ℕ → Text → Event
   SetText : ℕ → Text → Event
@@ -117,8 +121,9 @@ pub data Event : Type 0 where
   Visit : ℕ → Name → Bool → Event
   Edits : Name → Edit → Event
   Submit : Name → Event
-  Inject : Name → ℕ → Option Change → Event
+  Inject : Name → ℕ → Result Change ReadBad → Event
   Take : ℕ → Name → Event
+  Overfull : Name → Event
   Late : ℕ → Name → Event
   Push : Name → Event
   Hear : Name → Event
@@ -249,7 +254,7 @@ sent_up m number c None = with_client m c
 sent_up m number c (Some s) = record m {
   client = c;
   number = number;
-  conn = with_up m.conn (m.conn.up ++ record { number = number; base = s.base; change = s.change } ∷ []);
+  conn = with_up m.conn (m.conn.up ++ record { number = number; base = s.base; change = s.change; unread = None } ∷ []);
 }
 
 -- a first submission gets a new number, one that is sent again keeps its own
@@ -273,25 +278,34 @@ submit_by w n a = for_named w a λ m. submit_if w n m (submitted (birth_at w.pad
 abbrev pub no_change : Change
 no_change = record { edit = record { places = record { before = newline; fate = Drop } ∷ []; last = [] }; runs = [] }
 
--- a text that spells no change is none
-abbrev pub change_or_none : Option Change → Change
-change_or_none None = no_change
-change_or_none (Some c) = c
+-- the change that a text spells, where it spells one
+abbrev pub change_or_none : Result Change ReadBad → Change
+change_or_none (Ok c) = c
+change_or_none (Err why) = no_change
+
+-- why it spells none, where it does not
+abbrev pub unread_why : Result Change ReadBad → Option ReadBad
+unread_why (Ok c) = None
+unread_why (Err why) = Some why
+
+-- a guest's message, of what its text was read as
+abbrev pub injected : ℕ → ℕ → Result Change ReadBad → Message
+injected number base read = record { number = number; base = base; change = change_or_none read; unread = unread_why read }
 
 -- a guest sends anything on any base
-abbrev pub inject_by : WorldState → Name → ℕ → Option Change → Actor → WorldState
-inject_by w n base change Nobody = w
-inject_by w n base change (Named m) = w
-inject_by w n base change (Guest c) = record w {
+abbrev pub inject_by : WorldState → Name → ℕ → Result Change ReadBad → Actor → WorldState
+inject_by w n base read Nobody = w
+inject_by w n base read (Named m) = w
+inject_by w n base read (Guest c) = record w {
   edits = w.edits ++ n ∷ [];
-  actors = put w.actors n (Guest (with_up c (c.up ++ record { number = suc (length w.edits); base = base; change = change_or_none change } ∷ [])));
+  actors = put w.actors n (Guest (with_up c (c.up ++ injected (suc (length w.edits)) base read ∷ [])));
 }
 
 -- ---- what is taken
 
--- why the server does not take a message: its text spells no change, or the pad refuses it
+-- why the server does not take a message: its text spells no change, and why, or the pad refuses it
 pub data Reason : Type 0 where
-  Unread : Reason
+  Unread : Option ReadBad → Reason
   Refused : PadBad → Reason
 
 -- the pad's reason
@@ -301,7 +315,7 @@ pad_reason (Some bad) = Some (Refused bad)
 
 -- why a message is not taken, if it is not
 abbrev pub reason : PadState → Session → Message → Option Reason
-reason pad s msg = if is_edit msg.change.edit then pad_reason (refusal pad s msg.base msg.change) else Some Unread
+reason pad s msg = if is_edit msg.change.edit then pad_reason (refusal pad s msg.base msg.change) else Some (Unread msg.unread)
 
 -- the place of what is noted, where the edit becomes nothing
 abbrev pub noted_at : PadState → ℕ → Edit → Option ℕ
@@ -327,15 +341,23 @@ taking w s now msg = record w { pad = committed w.pad s now msg.base msg.change;
 abbrev pub answered : WorldState → ℕ → WorldState
 answered w number = record w { known = number ∷ w.known }
 
--- a session whose message is refused is left, and a client is told so
+-- a session whose message is refused is left, and a client is told so by this word
+abbrev pub refused_named : Word → WorldState → Name → Member → WorldState
+refused_named word w n m = with_actor (with_pad w (leave w.pad m.conn.session)) n (Named (with_conn m (closing word m.conn)))
+
+-- a guest's is left
+abbrev pub refused_guest : WorldState → Name → Conn → WorldState
+refused_guest w n c = with_actor (with_pad w (leave w.pad c.session)) n (Guest c)
+
+-- a client's message is taken, or refused
 abbrev pub take_named : WorldState → ℕ → Name → Member → Message → Option Reason → WorldState
 take_named w now n m msg None = with_actor (answered (taking w m.conn.session now msg) msg.number) n (Named m)
-take_named w now n m msg (Some why) = with_actor (with_pad w (leave w.pad m.conn.session)) n (Named (with_conn m (closing BadChangeset m.conn)))
+take_named w now n m msg (Some why) = refused_named BadChangeset w n m
 
--- a guest's message is taken, or its session is left
+-- a guest's message is taken, or refused
 abbrev pub take_guest : WorldState → ℕ → Name → Conn → Message → Option Reason → WorldState
 take_guest w now n c msg None = with_actor (answered (taking w c.session now msg) msg.number) n (Guest c)
-take_guest w now n c msg (Some why) = with_actor (with_pad w (leave w.pad c.session)) n (Guest c)
+take_guest w now n c msg (Some why) = refused_guest w n c
 
 -- the first of the queue up
 abbrev pub take_first_named : WorldState → ℕ → Name → Member → List Message → WorldState
@@ -352,6 +374,32 @@ abbrev pub take_by : WorldState → ℕ → Name → Actor → WorldState
 take_by w now n Nobody = w
 take_by w now n (Guest c) = take_first_guest w now n c c.up
 take_by w now n (Named m) = take_first_named w now n m m.conn.up
+
+-- a client's message that the pad would take is refused, since the journal has no room
+abbrev pub overfull_named : WorldState → Name → Member → Option Reason → WorldState
+overfull_named w n m None = refused_named JournalFull w n m
+overfull_named w n m (Some why) = w
+
+-- so is a guest's
+abbrev pub overfull_guest : WorldState → Name → Conn → Option Reason → WorldState
+overfull_guest w n c None = refused_guest w n c
+overfull_guest w n c (Some why) = w
+
+-- the first of the queue up
+abbrev pub overfull_first_named : WorldState → Name → Member → List Message → WorldState
+overfull_first_named w n m [] = w
+overfull_first_named w n m (msg ∷ up) = overfull_named w n (with_conn m (with_up m.conn up)) (reason w.pad m.conn.session msg)
+
+-- the first of the queue up
+abbrev pub overfull_first_guest : WorldState → Name → Conn → List Message → WorldState
+overfull_first_guest w n c [] = w
+overfull_first_guest w n c (msg ∷ up) = overfull_guest w n (with_up c up) (reason w.pad c.session msg)
+
+-- the journal's limit refuses the take of the first message of a name, and nothing else does
+abbrev pub overfull_by : WorldState → Name → Actor → WorldState
+overfull_by w n Nobody = w
+overfull_by w n (Guest c) = overfull_first_guest w n c c.up
+overfull_by w n (Named m) = overfull_first_named w n m m.conn.up
 
 -- another earlier connection
 abbrev pub with_earlier : Member → Conn → Member
@@ -515,8 +563,9 @@ happens w (Login now n) = login_as w now n (w.actors n)
 happens w (Visit now n read_only) = visit_as w now n read_only (w.actors n)
 happens w (Edits n e) = edit_by w n e (w.actors n)
 happens w (Submit n) = submit_by w n (w.actors n)
-happens w (Inject n base change) = inject_by w n base change (w.actors n)
+happens w (Inject n base read) = inject_by w n base read (w.actors n)
 happens w (Take now n) = take_by w now n (w.actors n)
+happens w (Overfull n) = overfull_by w n (w.actors n)
 happens w (Late now n) = late_by w now n (w.actors n)
 happens w (Push n) = push_by w n (w.actors n)
 happens w (Hear n) = hear_by w n (w.actors n)

@@ -304,7 +304,7 @@ module _ (w : WorldState) (now : ℕ) (pad : Pad) (name : Text) (rev : ℕ) (tex
 
     reason_is : reason pad_up first_session message ≡ pad_reason (fault_if too_long (TooLong (units_after pad_up rev change.edit)))
     reason_is =
-        ap (λ b. cond b (pad_reason (refusal pad_up first_session rev change)) (Some Unread)) reads ∙ ap pad_reason refusal_is
+        ap (λ b. cond b (pad_reason (refusal pad_up first_session rev change)) (Some (Unread None))) reads ∙ ap pad_reason refusal_is
 
     units_is : units_after pad_up rev change.edit ≡ length (step_doc change.edit (plain pad.text))
     units_is = ap₂ (λ e d. length (step_doc e d)) on_head_is both.has_revs.doc

@@ -66,7 +66,7 @@ submission_of rev change = record { base = rev; change = change; session = first
 
 -- its change on its way to the server
 abbrev pub message_of : ℕ → ℕ → Change → Message
-message_of number rev change = record { number = number; base = rev; change = change }
+message_of number rev change = record { number = number; base = rev; change = change; unread = None }
 
 -- it is a submission from the time that it is sent until its commit is heard
 abbrev pub sent_in : ℕ → Change → Stage → Option Submission

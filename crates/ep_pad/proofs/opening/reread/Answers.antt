@@ -4,6 +4,9 @@ use Rattle.ep_history.specs.Records.{told, unopened}
 use Rattle.ep_pad_file.specs.Refusals.{ReadRefused}
 use Rattle.ep_pad_file.specs.Standing.{Holds}
 use Rattle.ep_pad_state.specs.Held.{IsPad}
+use Rattle.ep_outside.specs.Disk.{IsImage}
+use Rattle.ep_outside.proofs.Moments.{started}
+use Rattle.ep_pad.proofs.Crashing.{images-on}
 use Rattle.ep_pad.proofs.Causes.{later-refused, read-fault, read-refused}
 use Rattle.ep_pad.proofs.Fronts.{all-read, bad-bytes, bad-next, below-count, none-read, one-read, record-at}
 use Rattle.ep_pad.proofs.Rereading.{marks-on, next-at, told-at, never-false, taken-in}
@@ -44,10 +47,11 @@ loop-i-preserved g c = (
       one-read c.args.limits k.seen _ _ c.loop-i.i _ _ (below-count k c.loop-i.i _ _ _ _ is c.requires.held c.count-i-end.ensures.value c.loop-i-test.true) (c.loop-i.invariant.6 k is)
       (record-at k c.loop-i.i _ _ same c.in_ok-record.ensures.value) c.in_ok-next.ensures (let no = c.if-not-branch.false in cc),
   marks-on c.loop-i.invariant.7 c.in_ok-record.ensures.marks,
+  images-on g.D.Disk.moment g.D.Disk.since g.D.Disk.told _ _ _ c.loop-i.invariant.2 c.loop-i.invariant.8 c.in_ok-record.ensures.images,
 )
 
 pub loop-i-init : goal.loop-i-init
-loop-i-init g c = (λ rs h legal. c.unopened-pad.ensures, c.requires, refl, refl, refl, omega arith, λ k is. none-read _ _ _ c.unopened-pad.ensures, record { steady = refl; alone = refl; unstopped = λ none. none })
+loop-i-init g c = (λ rs h legal. c.unopened-pad.ensures, c.requires, refl, refl, refl, omega arith, λ k is. none-read _ _ _ c.unopened-pad.ensures, record { steady = refl; alone = refl; unstopped = λ none. none }, started g.D.Disk.moment g.D.Disk.since _ (IsImage (g.D.Disk.told c.args.file.now.journal.disk)) (λ image now. g.met.D.Disk.only_now _ image now))
 
 pub returns-in_err-record-clause-bad : goal.returns-in_err-record-clause-bad
 returns-in_err-record-clause-bad g c k n is =
@@ -70,3 +74,15 @@ pub returns-in_err-record-clause-refused : goal.returns-in_err-record-clause-ref
 returns-in_err-record-clause-refused g c =
     let p = err_from_is_err_and c.from_residual.result c.from_residual.ensures.1 in
     rw (p.1, p.2) (later-refused _ _ _ _ c.loop-i.invariant.5 (read-refused _ _ _ _ _ _ _ _ c.in_err-record.ensures.refused))
+
+pub returns-in_err-record-clause-images : goal.returns-in_err-record-clause-images
+returns-in_err-record-clause-images g c = images-on g.D.Disk.moment g.D.Disk.since g.D.Disk.told _ _ _ c.loop-i.invariant.2 c.loop-i.invariant.8 c.in_err-record.ensures.images
+
+pub returns-in_err-next-clause-images : goal.returns-in_err-next-clause-images
+returns-in_err-next-clause-images g c = images-on g.D.Disk.moment g.D.Disk.since g.D.Disk.told _ _ _ c.loop-i.invariant.2 c.loop-i.invariant.8 c.in_ok-record.ensures.images
+
+pub returns-then-not-branch-clause-images : goal.returns-then-not-branch-clause-images
+returns-then-not-branch-clause-images g c = images-on g.D.Disk.moment g.D.Disk.since g.D.Disk.told _ _ _ c.loop-i.invariant.2 c.loop-i.invariant.8 c.in_ok-record.ensures.images
+
+pub returns-clause-images : goal.returns-clause-images
+returns-clause-images g c = c.loop-i.invariant.8

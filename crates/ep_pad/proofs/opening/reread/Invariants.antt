@@ -1,5 +1,6 @@
 use Rattle.std.proofs.Common.{◌≡◌, ◌≤◌, List, Some, take}
-use Rattle.ep_outside.specs.Disk.{Contents, KeepsMarks}
+use Rattle.ep_outside.specs.Disk.{Contents, IsImage, KeepsMarks}
+use Rattle.ep_outside.specs.Moments.{LeavesOnly}
 use Rattle.ep_pad.proofs.Fronts.{AreRead}
 use Rattle.ep_history.specs.Records.{AreLegal, told}
 use Rattle.ep_history.specs.declared.record.Record.{Record}
@@ -19,3 +20,4 @@ invariant-loop-i g l =
     × (g.D.Device.failures (disk_of l.fn.file) ≤ g.D.Device.failures (disk_of l.file))
     × ((c : Contents) → g.D.Disk.told (disk_of l.fn.file) ≡ Some c → AreRead l.fn.limits c.seen l.pad l.i)
     × KeepsMarks g.D.Device.is_steady g.D.Disk.stops_alone g.D.Disk.left (disk_of l.fn.file) (disk_of l.file)
+    × LeavesOnly g.D.Disk.moment g.D.Disk.since (disk_of l.fn.file) (disk_of l.file) (IsImage (g.D.Disk.told (disk_of l.fn.file)))

@@ -1,7 +1,8 @@
 use Rattle.std.proofs.Common.{◌∙◌, ap, sym}
 use Rattle.ep_cell.specs.History.{pairs}
 use Rattle.ep_cell.specs.Passes.{id_of, seen}
-use Rattle.ep_house.specs.Register.{cell_in, all_told}
+use Rattle.ep_house.specs.Register.{all_told}
+use Rattle.ep_pad.specs.Halls.{cell_in}
 use Rattle.ep_house.specs.Named.{shared_id}
 use Rattle.ep_house.proofs.Halls.{one_table, found_on}
 use Rattle.ep_house.proofs.pads.Pads.meet.Goals as goal

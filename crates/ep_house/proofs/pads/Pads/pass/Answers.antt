@@ -1,9 +1,9 @@
 use Rattle.std.proofs.Common.{◌∙◌, ap, sym, subst, refl, inl, Ok, Err}
 use Rattle.ep_cell.specs.History.{pairs}
 use Rattle.ep_cell.specs.Passes.{id_of, known, seen}
-use Rattle.ep_house.specs.Register.{IsLegal, cell_in, all_told}
+use Rattle.ep_house.specs.Register.{IsLegal, all_told}
 use Rattle.ep_house.specs.Named.{shared_id}
-use Rattle.ep_house.specs.Pads.{Notes}
+use Rattle.ep_pad.specs.Halls.{Notes, cell_in}
 use Rattle.ep_house.proofs.Halls.{answers_told, answered, hall_leads, notes, told}
 use Rattle.ep_house.proofs.pads.Pads.pass.Goals as goal
 

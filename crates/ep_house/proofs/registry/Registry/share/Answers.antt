@@ -1,6 +1,7 @@
 use Rattle.std.proofs.Common.{◌∙◌, ap, refl, rules, subst}
 use Rattle.ep_cell.specs.Passes.{id_of}
-use Rattle.ep_house.specs.Register.{Places, in_cell, told_of}
+use Rattle.ep_house.specs.Register.{Places, in_cell}
+use Rattle.ep_pad.specs.Halls.{told_of}
 use Rattle.ep_house.specs.Named.{shared_id, wait_of, waits_of}
 use Rattle.ep_house.specs.Registry.{register}
 use Rattle.ep_house.proofs.Finding.{waits-append}

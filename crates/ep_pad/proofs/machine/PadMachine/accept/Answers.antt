@@ -1,27 +1,14 @@
-use Rattle.std.proofs.Common.{refl, sym, subst}
 use Rattle.std.proofs.lemmas.Result.{err_from_is_err_and}
-use Rattle.ep_history.proofs.Answered.{normal-edit}
-use Rattle.ep_pad.specs.Standing.{Stands}
-use Rattle.ep_pad.proofs.Stepping.{asleep, keeps, opened, unready, with-pad}
+use Rattle.ep_pad.proofs.Crashing.{steps-over}
+use Rattle.ep_pad.proofs.Stepping.{asleep}
 use Rattle.ep_pad.proofs.machine.PadMachine.accept.Goals as goal
 
 pub returns-in_err-wake : goal.returns-in_err-wake
 returns-in_err-wake g c st k s =
     let p = err_from_is_err_and c.from_residual.result c.from_residual.ensures.1 in
-    rw (p.1, p.2) (asleep g.D.Disk.told g.D.Device.failures st _ _ _ (c.in_err-wake.ensures.wakes st k s))
-
-pub returns-in_err-ready : goal.returns-in_err-ready
-returns-in_err-ready g c st k s =
-    let p = err_from_is_err_and c.from_residual-in_err-ready.result c.from_residual-in_err-ready.ensures.1 in
-    let w = c.in_ok-wake.ensures.wakes st k s in
-    let m = subst (λ m. Stands g.D.Disk.told g.D.Device.failures m w.0) (sym c.self.view_is) w.2 in
-    let a = c.in_err-ready.ensures.answer w.0.pad (opened g.D.Disk.told g.D.Device.failures st w.0 _ w.1 m).pad in
-    rw (p.1, p.2) (unready g.D.Disk.told g.D.Device.failures st w.0 _ _ _ _ w.1 m a.0 a.1)
+    rw (p.1, p.2) (steps-over g.D.Disk.told g.D.Device.failures g.D.Disk.moment g.D.Disk.since g.D.Device.is_steady g.D.Disk.stops_alone g.D.Disk.left st _ _ c.args.self.now _ (asleep g.D.Disk.told g.D.Device.failures g.D.Disk.moment g.D.Disk.since g.D.Device.is_steady g.D.Disk.stops_alone g.D.Disk.left st c.args.self.now _ _ _ (c.in_err-wake.ensures.wakes st k s)))
 
 pub returns : goal.returns
 returns g c st k s =
     let w = c.in_ok-wake.ensures.wakes st k s in
-    let m = subst (λ m. Stands g.D.Disk.told g.D.Device.failures m w.0) (sym c.self.view_is) w.2 in
-    let a = c.in_ok-ready.ensures.answer w.0.pad (opened g.D.Disk.told g.D.Device.failures st w.0 _ w.1 m).pad in
-    let now = with-pad g.D.Disk.told g.D.Device.failures st w.0 _ _ w.0.pad w.1 m a.0 refl in
-    keeps g.D.Disk.told g.D.Device.failures st w.0 _ _ _ c.in_ok-ready.ready _ w.1 a.1 (normal-edit _ c.ops-normal.ensures.normal) (c.keep.ensures w.0 now)
+    steps-over g.D.Disk.told g.D.Device.failures g.D.Disk.moment g.D.Disk.since g.D.Device.is_steady g.D.Disk.stops_alone g.D.Disk.left st _ _ c.args.self.now _ (c.take.ensures.steps c.args.self.now st w.0 w.1 w.2)

@@ -1,0 +1,37 @@
+-- What a hall knows of the pads of a server: which names were asked for, and which cell each was answered, or why none.
+use Rattle.std.specs.Prelude.{ℕ, ◌≡◌, ◌⊎◌, ◌<◌, bytes_eq, if◌then◌else◌, List, [], ◌∷◌, ◌++◌, length, Option, Some, None, Result, Ok, Err}
+use Rattle.atomic_table.specs.Seated.{TableId}
+use Rattle.ep_cell.specs.History.{Extends, call, calls_by, pairs}
+use Rattle.ep_cell.specs.Passes.{Known}
+use Rattle.ep_pad.specs.declared.pass_bad.PassBad.{PassBad}
+use Rattle.ep_pad.specs.declared.pass_bad.PassBad.TheVariants as bad
+
+-- which cell, or why none
+abbrev pub Answer : Type 0 → Type 0
+Answer B = Result TableId (PassBad B)
+
+-- what is told of an answer, by the cell's id
+abbrev pub told_of : {C B : Type 0} → (C → TableId) → Result C (PassBad B) → Answer B
+told_of id (Ok c) = Ok (id c)
+told_of id (Err e) = Err e
+
+abbrev pub or_cell : {B : Type 0} → Answer B → Option TableId → Option TableId
+or_cell (Ok id) rest = Some id
+or_cell (Err e) rest = rest
+
+-- the first cell that a name was answered
+abbrev pub cell_in : {B : Type 0} → List (List ℕ × Answer B) → List ℕ → Option TableId
+cell_in [] name = None
+cell_in (c ∷ cs) name = if bytes_eq name c.0 then or_cell c.1 (cell_in cs name) else cell_in cs name
+
+-- A hall's call: what it has seen goes on and ends with this name and its answer, which is the one more of its own, and is legal
+pub record Notes {B : Type 0} (Legal : List (List ℕ × Answer B) → Type 0) (v : Known (List ℕ) (Answer B)) (name : List ℕ) (r : Answer B) (w : Known (List ℕ) (Answer B)) : Type 0 where
+  pub extends : Extends v.seen (call v.number name r) w.seen
+  pub own : calls_by v.number w.seen ≡ calls_by v.number v.seen ++ call v.number name r ∷ []
+  pub behind : v.floor < length w.seen
+  pub number : w.number ≡ v.number
+  pub legal : Legal (pairs w.seen)
+
+-- or no memory was found before the call, and nothing changed
+abbrev pub NotesOrNone : {B : Type 0} → (List (List ℕ × Answer B) → Type 0) → Known (List ℕ) (Answer B) → List ℕ → Answer B → Known (List ℕ) (Answer B) → Type 0
+NotesOrNone Legal v name r w = Notes Legal v name r w ⊎ ((r ≡ Err bad.NoMemory) × (w ≡ v))
