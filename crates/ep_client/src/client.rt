@@ -313,6 +313,13 @@ impl Client {
         (self.sent_in.is_some(), !self.local.is_identity())
     }
 
+    /// Whether it is connected.
+    pub fn is_connected(&self) -> bool
+        ensures { result ≡ self.now.connected }
+    {
+        self.connected
+    }
+
     /// Its connection is lost. It may be edited all the same.
     pub fn lost(&mut self)
         ensures { self.new ≡ kept_lost self.old }

@@ -14,10 +14,10 @@ use Rattle.ep_history.specs.declared.pad_bad.PadBad.{PadBad}
 use Rattle.ep_history.specs.Refusals.{login_fault, resume_fault}
 use Rattle.ep_history.specs.Server.{create_fault, gone_fault, set_fault, set_text}
 use Rattle.ep_schedule.specs.Headline.{Extends, Grows}
-use Rattle.ep_schedule.specs.World.{Actor, Conn, Down, Event, Member, Message, Name, Reason, Taken, Word, WorldState, answered, author_of, crashed, edit_by, entered, grant_of, happens, hear_by, hear_first, if_text, inject_by, late_as, late_by, late_first, late_of, login_as, login_if, lose_by, lost_member, overfull_by, overfull_first_guest, overfull_first_named, overfull_guest, overfull_named, pad_if, push_as, push_by, push_login, push_next, push_turn, reason, refused_guest, refused_named, resume_by, resume_if, run, spending, stop_as, stop_by, stop_conn, stopped, submit_as, submit_by, submit_if, take_by, take_first_guest, take_first_named, take_guest, take_named, visit, visit_as, visit_if, with_actor, with_client, with_conn, with_earlier, with_up}
+use Rattle.ep_schedule.specs.World.{Actor, Conn, Down, Event, Member, Message, Name, Reason, Taken, Word, WorldState, answered, author_of, refusal_word, crashed, edit_by, entered, grant_of, happens, hear_by, hear_first, if_text, inject_by, late_as, late_by, late_first, late_of, login_as, login_if, lose_by, lost_member, overfull_by, overfull_first_guest, overfull_first_named, overfull_guest, overfull_named, pad_if, push_as, push_by, push_login, push_next, push_turn, reason, refused_guest, refused_named, resume_by, resume_if, run, spending, stop_as, stop_by, stop_conn, stopped, submit_as, submit_by, submit_if, take_by, take_first_guest, take_first_named, take_guest, take_named, visit, visit_as, visit_if, with_actor, with_client, with_conn, with_earlier, with_up}
 use Rattle.ep_schedule.specs.World.Actor.{Guest, Named, Nobody}
 use Rattle.ep_schedule.specs.World.Down.{Closing, Revision, Spent}
-use Rattle.ep_schedule.specs.World.Word.{BadChangeset, JournalFull}
+use Rattle.ep_schedule.specs.World.Word.{JournalFull}
 use Rattle.ep_schedule.specs.World.Event.{Create, Delete, Edits, Hear, Inject, Late, Login, Lose, Overfull, Push, Resume, SetText, Stop, Submit, Take, Visit}
 use Rattle.ep_history.specs.declared.seat.Why.TheVariants.{Deleted, Left, Reopened, Replaced}
 use Rattle.ep_units.specs.Text.{Text, is_well_formed}
@@ -190,7 +190,7 @@ take-grows w now n (Named m) = first m.conn.up
   where
     decided : (m' : Member) (msg : Message) (o : Option Reason) → Grows w (take_named w now n m' msg o)
     decided m' msg None = takes w m'.conn.session now msg _ refl _ refl
-    decided m' msg (Some bad) = refused-grows BadChangeset w n m'
+    decided m' msg (Some bad) = refused-grows (refusal_word bad) w n m'
 
     first : (us : List Message) → Grows w (take_first_named w now n m us)
     first [] = stays w

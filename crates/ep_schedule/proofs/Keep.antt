@@ -15,11 +15,11 @@ use Rattle.ep_history.specs.Refusals.{login_fault, resume_fault}
 use Rattle.ep_history.specs.Server.{create_fault, gone_fault, set_fault, set_text}
 use Rattle.ep_schedule.specs.Headline.{Extends, after}
 use Rattle.ep_schedule.specs.Kepts.{AreKept, AreSubmittedAlike, IsSameSubmission, KeepsActor, Kepts, kept_after_submit, kept_edit, kept_happens, kept_hear, kept_hear_first, kept_login, kept_login_if, kept_lose, kept_put, kept_resume, kept_resume_if, kept_submit, nobodies, run_kept}
-use Rattle.ep_schedule.specs.World.{Actor, Conn, Down, Event, Member, Message, Name, Reason, Word, WorldState, answered, author_of, closing, crashed, cut_off, edit_by, grant_of, happens, hear_by, hear_first, if_text, inject_by, injected, known_after, late_as, late_by, late_first, late_of, login_as, login_if, lose_by, lost_member, new_conn, new_member, overfull_by, overfull_first_guest, overfull_first_named, overfull_guest, overfull_named, pad_if, push_as, push_by, push_login, push_next, push_turn, put, reason, refused_guest, refused_named, resume_as, resume_by, resume_if, resume_member, run, sending, sent_up, spending, start, stop_as, stop_by, stop_conn, stopped, submit_as, submit_by, submit_if, take_by, take_first_guest, take_first_named, take_guest, take_named, visit, visit_as, visit_if, with_actor, with_client, with_conn, with_down, with_earlier, with_up}
+use Rattle.ep_schedule.specs.World.{Actor, Conn, Down, Event, Member, Message, Name, Reason, Word, WorldState, answered, author_of, closing, refusal_word, crashed, cut_off, edit_by, grant_of, happens, hear_by, hear_first, if_text, inject_by, injected, known_after, late_as, late_by, late_first, late_of, login_as, login_if, lose_by, lost_member, new_conn, new_member, overfull_by, overfull_first_guest, overfull_first_named, overfull_guest, overfull_named, pad_if, push_as, push_by, push_login, push_next, push_turn, put, reason, refused_guest, refused_named, resume_as, resume_by, resume_if, resume_member, run, sending, sent_up, spending, start, stop_as, stop_by, stop_conn, stopped, submit_as, submit_by, submit_if, take_by, take_first_guest, take_first_named, take_guest, take_named, visit, visit_as, visit_if, with_actor, with_client, with_conn, with_down, with_earlier, with_up}
 use Rattle.ep_schedule.specs.World.Actor.{Guest, Named, Nobody}
 use Rattle.ep_schedule.specs.World.Down.{Closing, Revision, Spent}
 use Rattle.ep_schedule.specs.World.Event.{Create, Delete, Edits, Hear, Inject, Late, Login, Lose, Overfull, Push, Resume, SetText, Stop, Submit, Take, Visit}
-use Rattle.ep_schedule.specs.World.Word.{BadChangeset, JournalFull, PadDeleted, UserDup}
+use Rattle.ep_schedule.specs.World.Word.{JournalFull, PadDeleted, UserDup}
 use Rattle.ep_history.specs.declared.seat.Why.TheVariants.{Deleted, Left, Reopened, Replaced}
 use Rattle.ep_history.proofs.Lists.{none_some, some_same}
 use Rattle.ep_cs.proofs.Identity.{apply-identity}
@@ -386,7 +386,7 @@ take-kept w now ks n (Named m) g h i = first m.conn.up
   where
     decided : (conn : Conn) (msg : Message) (o : Option Reason) → AreKept (take_named w now n (with_conn m conn) msg o) ks
     decided conn msg None = same-put w (committed w.pad conn.session now msg.base msg.change) ks n (Named (with_conn m conn)) g (commit-extends w.pad conn.session now msg.base msg.change) (is-same w n (Named m) (Named (with_conn m conn)) i (refl, refl)) h
-    decided conn msg (Some bad) = refused-kept BadChangeset w ks n m conn g h i
+    decided conn msg (Some bad) = refused-kept (refusal_word bad) w ks n m conn g h i
 
     first : (us : List Message) → AreKept (take_first_named w now n m us) ks
     first [] = h

@@ -10,8 +10,8 @@ use Rattle.ep_history.specs.Pad.{with_nops, with_revs, PadState, birth_at, leave
 use Rattle.ep_history.specs.declared.pad_bad.PadBad.TheVariants.{NoBase}
 use Rattle.ep_schedule.specs.Headline.{AreNopsMarked, AreRevsMarked, IsMarked, IsMarkedRev, IsOneCarrier, IsByMaker, AreApart, IsRebased}
 use Rattle.ep_schedule.proofs.Marks.{AreKnown, in-among}
-use Rattle.ep_schedule.specs.World.{Actor, Conn, Member, Message, Name, Reason, Taken, Word, WorldState, author_of, closing, inject_by, mark, put, reason, overfull_by, overfull_first_guest, overfull_first_named, overfull_guest, overfull_named, refused_guest, refused_named, take_by, take_first_guest, take_first_named, take_guest, take_named, with_actor, with_conn, with_pad, with_up}
-use Rattle.ep_schedule.specs.World.Word.{BadChangeset, JournalFull}
+use Rattle.ep_schedule.specs.World.{Actor, Conn, Member, Message, Name, Reason, Taken, Word, WorldState, author_of, closing, inject_by, mark, put, reason, refusal_word, overfull_by, overfull_first_guest, overfull_first_named, overfull_guest, overfull_named, refused_guest, refused_named, take_by, take_first_guest, take_first_named, take_guest, take_named, with_actor, with_conn, with_pad, with_up}
+use Rattle.ep_schedule.specs.World.Word.{JournalFull}
 use Rattle.ep_schedule.specs.World.Actor.{Guest, Named, Nobody}
 use Rattle.ep_history.proofs.Lists.{none_some, some_same, at-below, at-grown, at-new, at-past}
 use Rattle.ep_cs.proofs.EditFits.{IsFit}
@@ -663,7 +663,7 @@ take-good w now n (Named m) g i = first m.conn.up refl
   where
     decided : (msg : Message) (up : List Message) → m.conn.up ≡ msg ∷ up → (o : Option Reason) → reason w.pad m.conn.session msg ≡ o → IsGoodWorld (take_named w now n (with_conn m (with_up m.conn up)) msg o)
     decided msg up q None r = take-named-good w now n m (msg.number ∷ w.known) msg up g i q r (knows-mark w m.conn.session now msg g)
-    decided msg up q (Some bad) r = refused-named-good BadChangeset w n m msg up g i q
+    decided msg up q (Some bad) r = refused-named-good (refusal_word bad) w n m msg up g i q
 
     first : (us : List Message) → m.conn.up ≡ us → IsGoodWorld (take_first_named w now n m us)
     first [] q = g

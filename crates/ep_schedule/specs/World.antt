@@ -15,6 +15,7 @@ use Rattle.ep_cs.specs.EditFits.{is_edit, fits}
 use Rattle.ep_history.specs.Pad.{PadState, birth_at, newest, seat_of, next_session, with_session, leave, create, delete, reopened}
 use Rattle.ep_history.specs.declared.seat.Why.TheVariants.{Replaced, Deleted, Reopened, Left}
 use Rattle.ep_history.specs.declared.pad_bad.PadBad.{PadBad}
+use Rattle.ep_history.specs.declared.pad_bad.PadBad.TheVariants as bad
 use Rattle.ep_history.specs.Refusals.{login_fault, resume_fault}
 use Rattle.ep_history.specs.Entry.{opened}
 use Rattle.ep_history.specs.Accept.{refusal, by_session, at_head, committed}
@@ -349,10 +350,17 @@ refused_named word w n m = with_actor (with_pad w (leave w.pad m.conn.session)) 
 abbrev pub refused_guest : WorldState → Name → Conn → WorldState
 refused_guest w n c = with_actor (with_pad w (leave w.pad c.session)) n (Guest c)
 
+-- the word with which a refusal closes: the pad was deleted, a newer session of the author came, or the changeset is bad
+abbrev pub refusal_word : Reason → Word
+refusal_word (Refused (bad.Dead (Deleted birth))) = PadDeleted
+refusal_word (Refused (bad.Dead (Replaced by))) = UserDup
+refusal_word (Refused bad.Gone) = PadDeleted
+refusal_word why = BadChangeset
+
 -- a client's message is taken, or refused
 abbrev pub take_named : WorldState → ℕ → Name → Member → Message → Option Reason → WorldState
 take_named w now n m msg None = with_actor (answered (taking w m.conn.session now msg) msg.number) n (Named m)
-take_named w now n m msg (Some why) = refused_named BadChangeset w n m
+take_named w now n m msg (Some why) = refused_named (refusal_word why) w n m
 
 -- a guest's message is taken, or refused
 abbrev pub take_guest : WorldState → ℕ → Name → Conn → Message → Option Reason → WorldState

@@ -1,5 +1,6 @@
 pub mod Cuts
 pub mod Escapes
 pub mod Numbers
-pub mod Words
-pub mod Gives
+pub mod Spaces
+pub mod Whole
+pub mod Grammar

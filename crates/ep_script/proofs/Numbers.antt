@@ -33,5 +33,5 @@ ok_number bs limit (Ok n) h = ap Some h.1 ∙ sym (number_below-Some limit bs (i
 ok_number bs limit (Err e) h = number_below-None limit bs _ _ refl refl (λ k. let p = is_numeral_parts bs k.0 in h (p.0, p.1, k.1))
 
 -- what `parse` gives of a text that doesn't begin with a plus
-pub result_ok-parse : {E : Type 0} (bs : List ℕ) (r : Result ℕ E) → ParsesUnsigned 32 10 bs r → get_or bs 0 0 ≢ 43 → result_ok r ≡ number_below (2 ^ 32) bs
-result_ok-parse bs r h other = ok_number bs (2 ^ 32) r (parse_plain own 32 bs r h other)
+pub result_ok-parse : {E : Type 0} (bits : ℕ) (bs : List ℕ) (r : Result ℕ E) → ParsesUnsigned bits 10 bs r → get_or bs 0 0 ≢ 43 → result_ok r ≡ number_below (2 ^ bits) bs
+result_ok-parse bits bs r h other = ok_number bs (2 ^ bits) r (parse_plain own bits bs r h other)

@@ -1,4 +1,9 @@
 pub mod Lines
+pub mod Words
 pub mod Texts
+pub mod Left
+pub mod Fields
+pub mod Edits
+pub mod Seen
 pub mod Line
-pub mod Printed
+pub mod WriteLine

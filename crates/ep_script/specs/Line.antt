@@ -1,104 +1,134 @@
 -- What a line of a script is.
-use Rattle.std.specs.Prelude.{◌≡◌, ℕ, ◌^◌, Bool, ◌==◌, if◌then◌else◌, List, [], ◌∷◌, codes, Option, Some, None, option_and_then, Result, Ok, Err}
-use Rattle.std.specs.Option.{option_map, ok_or}
-use Rattle.std.specs.List.{list_any}
-use Rattle.std.specs.Str.{is_utf8, bytes_eq}
+use Rattle.std.specs.Prelude.{◌≡◌, ℕ, Bool, true, false, ◌==◌, if◌then◌else◌, List, [], ◌∷◌, codes, Option, Some, None, Result, Ok, Err}
+use Rattle.std.specs.Option.{ok_or}
+use Rattle.std.specs.Str.{is_utf8}
 use Rattle.ep_units.specs.Text.{Text}
-use Rattle.ep_units.specs.Utf8.{units_of}
-use Rattle.ep_script.specs.Texts.{unescaped, is_name, number_below}
-use Rattle.ep_script.specs.declared.event.Local.TheVariants.{Insert}
-use Rattle.ep_script.specs.declared.event.Event.TheVariants as event
+use Rattle.ep_event.specs.declared.event.Local.{Local}
+use Rattle.ep_event.specs.declared.event.Event.{Event}
+use Rattle.ep_event.specs.declared.event.Event.TheVariants as event
+use Rattle.ep_script.specs.Words.{Rest, first_word, behind_word, next, behind, look_up, ◌>>=◌}
+use Rattle.ep_script.specs.Fields.{name, number, text, value, calls, image}
+use Rattle.ep_script.specs.Edits.{insert, delete, format}
+use Rattle.ep_script.specs.Seen.{Seen, whole, stopped}
 use Rattle.ep_script.specs.declared.line.Line.{Line}
 use Rattle.ep_script.specs.declared.line.Line.TheVariants as line
 use Rattle.ep_script.specs.declared.line.LineBad.{LineBad}
 use Rattle.ep_script.specs.declared.line.LineBad.TheVariants.{Utf8, Syntax, NoMemory}
 
--- the word that a text begins with, up to its first space
-abbrev pub first_word : List ℕ → List ℕ
-first_word [] = []
-first_word (b ∷ bs) = if b == 32 then [] else b ∷ first_word bs
+abbrev pub says : Line → Option Seen
+says l = Some (whole l)
 
--- what stands behind the first space, where there is one
-abbrev pub behind_word : List ℕ → Option (List ℕ)
-behind_word [] = None
-behind_word (b ∷ bs) = if b == 32 then Some bs else behind_word bs
+abbrev pub says_event : Event → Option Seen
+says_event e = says (line.Event e)
 
--- a text, with its escapes
-abbrev pub text_in : List ℕ → Option Text
-text_in bytes = unescaped (units_of bytes)
+-- ---- lines of a word and a NAME
+
+-- what each says, by its word
+abbrev pub named_lines : List (List ℕ × (Text → Line))
+named_lines =
+    (codes "login", λ n. line.Event (event.Login n))
+    ∷ (codes "guest", λ n. line.Event (event.Guest n false))
+    ∷ (codes "reader", λ n. line.Event (event.Guest n true))
+    ∷ (codes "submit", λ n. line.Event (event.Submit n))
+    ∷ (codes "take", λ n. line.Event (event.Take n))
+    ∷ (codes "late", λ n. line.Event (event.Late n))
+    ∷ (codes "push", λ n. line.Event (event.Push n))
+    ∷ (codes "hear", λ n. line.Event (event.Hear n))
+    ∷ (codes "lose", λ n. line.Event (event.Lose n))
+    ∷ (codes "resume", λ n. line.Event (event.Resume n))
+    ∷ (codes "show", λ n. line.Show n)
+    ∷ []
+
+abbrev pub named : List ℕ → Text → Option Seen
+named word n = look_up word named_lines >>= λ l. says (l n)
+
+abbrev pub named_line : List ℕ → Rest → Option Seen
+named_line word rest = name rest >>= named word
+
+-- ---- lines of other forms, by what stands behind their word
 
 -- TEXT, which may be empty or missing
-abbrev pub create_line : Option (List ℕ) → Option Line
-create_line None = Some (line.Event (event.Create []))
-create_line (Some rest) = option_map (λ t. line.Event (event.Create t)) (text_in rest)
+abbrev pub create_line : Rest → Option Seen
+create_line rest = value rest >>= λ t. says_event (event.Create t)
 
--- NAME, and nothing behind it
-abbrev pub name_in : Option (List ℕ) → Option Text
-name_in None = None
-name_in (Some name) = if is_name name then Some (units_of name) else None
+abbrev pub set_line : Rest → Option Seen
+set_line rest = value rest >>= λ t. says_event (event.SetText t)
 
--- one of these words, and a name
-abbrev pub named_line : List ℕ → Text → Option Line
-named_line word name =
-    if bytes_eq word (codes "login") then Some (line.Event (event.Login name))
-    else (if bytes_eq word (codes "submit") then Some (line.Event (event.Submit name))
-    else (if bytes_eq word (codes "take") then Some (line.Event (event.Take name))
-    else (if bytes_eq word (codes "push") then Some (line.Event (event.Push name))
-    else (if bytes_eq word (codes "hear") then Some (line.Event (event.Hear name))
-    else (if bytes_eq word (codes "show") then Some (line.Show name) else None)))))
+-- nothing behind the word
+abbrev pub alone : Seen → Rest → Option Seen
+alone l None = Some l
+alone l (Some rest) = None
 
--- the text isn't empty
-abbrev pub inserts : Text → ℕ → Text → Option Line
-inserts name at [] = None
-inserts name at (u ∷ us) = Some (line.Event (event.Edit name (Insert at (u ∷ us))))
+-- NAME, and an edit behind it
+abbrev pub edit_line : Rest → Option Local → Option Seen
+edit_line rest edit = name (next rest) >>= λ n. edit >>= λ e. says_event (event.Edit n e)
 
--- AT and TEXT
-abbrev pub insert_at : Text → Option (List ℕ) → Option Line
-insert_at name None = None
-insert_at name (Some rest) = option_and_then (λ at. option_and_then (inserts name at) (option_and_then text_in (behind_word rest))) (number_below (2 ^ 32) (first_word rest))
+-- KEY VALUE, where VALUE may be empty or missing
+abbrev pub attr_line : Rest → Option Seen
+attr_line rest = text (next rest) >>= λ key. value (behind rest) >>= λ v. says (line.Attr key v)
 
--- NAME, AT and TEXT
-abbrev pub insert_line : Option (List ℕ) → Option Line
-insert_line None = None
-insert_line (Some rest) = option_and_then (λ name. insert_at name (behind_word rest)) (name_in (Some (first_word rest)))
+-- NAME BASE CHANGESET
+abbrev pub inject_line : Rest → Option Seen
+inject_line rest = name (next rest) >>= λ n. number (next (behind rest)) >>= λ base. text (behind (behind rest)) >>= λ t. says (line.Inject n base t)
 
--- nothing behind it
-abbrev pub head_line : Option (List ℕ) → Option Line
-head_line None = Some line.Head
-head_line (Some rest) = None
+-- nothing, or NAME K IMAGE
+abbrev pub crash_line : Rest → Option Seen
+crash_line None = says_event (event.Stop None)
+crash_line (Some rest) =
+    name (next (Some rest)) >>= λ n. calls (next (behind (Some rest))) >>= λ k. image (behind (behind (Some rest))) >>= λ i. Some (stopped n k i)
 
--- a line that begins with this word, with this behind its first space
-abbrev pub line_with : List ℕ → Option (List ℕ) → Option Line
-line_with word rest =
-    if bytes_eq word (codes "create") then create_line rest
-    else (if bytes_eq word (codes "insert") then insert_line rest
-    else (if bytes_eq word (codes "head") then head_line rest else option_and_then (named_line word) (name_in rest)))
+-- R
+abbrev pub text_line : Rest → Option Seen
+text_line rest = number rest >>= λ rev. says (line.Text rev)
 
--- the words of lines that are not built yet
-abbrev pub later_words : List (List ℕ)
-later_words =
-    codes "set" ∷ codes "drop" ∷ codes "delete" ∷ codes "guest" ∷ codes "reader" ∷ codes "format" ∷ codes "attr"
-    ∷ codes "inject" ∷ codes "late" ∷ codes "lose" ∷ codes "resume" ∷ codes "crash" ∷ codes "text" ∷ codes "marks" ∷ []
+-- nothing, or NAME
+abbrev pub marks_line : Rest → Option Seen
+marks_line None = says line.Marks
+marks_line (Some rest) = name (Some rest) >>= λ n. says (line.ViewMarks n)
 
-abbrev pub is_later : List ℕ → Bool
-is_later word = list_any (bytes_eq word) later_words
+-- what each says, by its word
+abbrev pub other_lines : List (List ℕ × (Rest → Option Seen))
+other_lines =
+    (codes "create", create_line)
+    ∷ (codes "set", set_line)
+    ∷ (codes "drop", alone (whole (line.Event event.Delete)))
+    ∷ (codes "insert", λ rest. edit_line rest (insert (behind rest)))
+    ∷ (codes "delete", λ rest. edit_line rest (delete (behind rest)))
+    ∷ (codes "format", λ rest. edit_line rest (format (behind rest)))
+    ∷ (codes "attr", attr_line)
+    ∷ (codes "inject", inject_line)
+    ∷ (codes "crash", crash_line)
+    ∷ (codes "head", alone (whole line.Head))
+    ∷ (codes "text", text_line)
+    ∷ (codes "marks", marks_line)
+    ∷ []
 
--- a line of words
-abbrev pub words_line : List ℕ → Result Line LineBad
-words_line bytes = if is_later (first_word bytes) then Ok line.Later else ok_or (line_with (first_word bytes) (behind_word bytes)) Syntax
+-- ---- every line
 
--- an empty line, and one that begins with `#`, do nothing
-abbrev pub text_line : List ℕ → Result Line LineBad
-text_line [] = Ok line.Blank
-text_line (b ∷ bs) = if b == 35 then Ok line.Blank else words_line (b ∷ bs)
+abbrev pub line_by : Option (Rest → Option Seen) → List ℕ → Rest → Option Seen
+line_by (Some form) word rest = form rest
+line_by None word rest = named_line word rest
+
+-- a line that begins with this word, with this behind it
+abbrev pub line_with : List ℕ → Rest → Option Seen
+line_with word rest = line_by (look_up word other_lines) word rest
+
+-- an empty line, and one that begins with `#`, say nothing
+abbrev pub is_blank : List ℕ → Bool
+is_blank [] = true
+is_blank (b ∷ bs) = b == 35
+
+-- a text is blank, or its first word says what stands behind it
+abbrev pub read_as : {A : Type 0} → A → (List ℕ → Rest → Option A) → List ℕ → Result A LineBad
+read_as blank with_word bytes = if is_blank bytes then Ok blank else ok_or (with_word (first_word bytes) (behind_word bytes)) Syntax
 
 -- what the bytes of a line are
-unfoldable pub line_of : List ℕ → Result Line LineBad
-line_of bytes = if is_utf8 bytes then text_line bytes else Err Utf8
+unfoldable pub line_of : List ℕ → Result Seen LineBad
+line_of bytes = if is_utf8 bytes then read_as (whole line.Blank) line_with bytes else Err Utf8
 
 -- What was read is what a definition says, unless memory ran out
-abbrev pub Gives : {X : Type 0} → Result X LineBad → Result X LineBad → Type 0
-Gives (Ok x) said = said ≡ Ok x
-Gives (Err Utf8) said = said ≡ Err Utf8
-Gives (Err Syntax) said = said ≡ Err Syntax
-Gives (Err NoMemory) said = Unit {0}
+abbrev pub Gives : {A B : Type 0} → (A → B) → Result A LineBad → Result B LineBad → Type 0
+Gives view (Ok x) said = said ≡ Ok (view x)
+Gives view (Err Utf8) said = said ≡ Err Utf8
+Gives view (Err Syntax) said = said ≡ Err Syntax
+Gives view (Err NoMemory) said = Unit {0}

@@ -1,11 +1,11 @@
 -- Texts, names and numbers as a script writes them.
-use Rattle.std.specs.Prelude.{ℕ, Bool, true, false, ◌==◌, ◌&&◌, nat_le, nat_lt, slice_index, if◌then◌else◌, List, [], ◌∷◌, length, Option, Some, None}
-use Rattle.std.specs.List.{flat_map, list_all}
+use Rattle.std.specs.Prelude.{◌≡◌, ℕ, ◌-◌, Bool, true, false, ◌==◌, ◌&&◌, nat_le, nat_lt, slice_index, if◌then◌else◌, List, [], ◌∷◌, length, Option, Some, None}
+use Rattle.std.specs.List.{list_all}
 use Rattle.std.specs.Option.{option_map}
 use Rattle.std.specs.Char.{is_ascii_alphabetic, is_ascii_alphanumeric}
 use Rattle.std.specs.Str.{all_ascii_digits}
 use Rattle.std.specs.Str.Parse.{digits_value}
-use Rattle.ep_units.specs.Text.{Text}
+use Rattle.ep_units.specs.Text.{Text, is_well_formed}
 
 -- ---- texts
 
@@ -27,14 +27,9 @@ unescaped_from true (u ∷ us) = before (escape u) (unescaped_from false us)
 abbrev pub unescaped : Text → Option Text
 unescaped us = unescaped_from false us
 
--- backslash, LF, tab and double quote as they are written out
-abbrev pub written : ℕ → Text
-written u =
-    if u == 92 then 92 ∷ 92 ∷ []
-    else (if u == 10 then 92 ∷ 110 ∷ [] else (if u == 9 then 92 ∷ 116 ∷ [] else (if u == 34 then 92 ∷ 34 ∷ [] else u ∷ [])))
-
-abbrev pub escaped : Text → Text
-escaped us = flat_map written us
+-- no half of a pair stands alone
+abbrev pub IsText : Text → Type 0
+IsText us = is_well_formed us ≡ true
 
 -- ---- names
 
@@ -52,3 +47,9 @@ is_numeral (b ∷ bs) = all_ascii_digits (b ∷ bs)
 -- the number below the limit that decimal digits say
 abbrev pub number_below : ℕ → List ℕ → Option ℕ
 number_below limit bs = if is_numeral bs && nat_lt (digits_value 10 bs) limit then Some (digits_value 10 bs) else None
+
+-- one of the digits 0 to 9 and a to f
+abbrev pub hex_digit : ℕ → Option ℕ
+hex_digit c =
+    if nat_le 48 c && nat_le c 57 then Some (c - 48)
+    else (if nat_le 97 c && nat_le c 102 then Some (c - 87) else None)

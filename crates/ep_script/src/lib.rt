@@ -1,18 +1,18 @@
-//! Scripts: what their lines say, and what is printed for each.
+//! Scripts: what their lines say.
 //!
-//! The crates above may rest on the definitions of a line and of a printed line in `specs/`, which the
-//! calls meet exactly. What a line does to a pad and its clients is not of this crate.
+//! The crates above may rest on the definitions of a line in `specs/`, which the calls meet exactly, and on each text
+//! that is read being whole. What a line does to a pad and its clients is not of this crate, nor what is printed.
 #![tactic(auto)]
 
-mod event;
+mod edits;
+mod fields;
+mod forms;
 mod line;
 mod lines;
-mod print;
-mod shown;
 mod texts;
+mod words;
+mod write_line;
 
-pub use event::{Event, Local};
 pub use line::{Line, LineBad, read_line};
 pub use lines::cut_line;
-pub use print::print_shown;
-pub use shown::{Shown, State};
+pub use write_line::{WriteLine, read_write_line};

@@ -1,11 +1,17 @@
 //! Lines of a script, and what each says.
 
-ghost use Rattle.std.specs.Prelude.{◌≡◌};
-ghost use Rattle.std.specs.Option.{option_copied, ok_or};
-ghost use Rattle.ep_script.specs.Line.{line_of, text_line, words_line, line_with, is_later, create_line, insert_line, insert_at, inserts, name_in, named_line, head_line, text_in, first_word, behind_word, Gives};
+ghost use Rattle.std.specs.Prelude.{◌≡◌, option_map, IfOk, IfSome};
+ghost use Rattle.std.specs.Option.{option_copied};
+ghost use Rattle.ep_script.specs.Line.{line_of, line_with, read_as, is_blank, Gives};
+ghost use Rattle.ep_script.specs.Seen.{seen, whole, AreTexts};
 
-use crate::event::{Event, Local};
-use crate::texts::{is_name, read_number, unescape};
+use crate::edits::{read_delete, read_format, read_insert};
+use crate::forms::{
+    alone, read_attr, read_crash, read_create, read_edit, read_inject, read_marks, read_named,
+    read_revision, read_set,
+};
+use crate::words::{behind, cut_word};
+use ep_event::Event;
 use ep_units::{NoMemory, Units};
 use std::alloc::Global;
 use std::str;
@@ -16,13 +22,22 @@ use thiserror::Error;
 pub enum Line {
     /// Nothing: it is empty, or a comment.
     Blank,
+    /// What happens, as it stands.
     Event(Event),
+    /// A guest sends this text, which is a changeset with the script's pool.
+    Inject { name: Units, base: u64, text: Units },
+    /// Puts a pair into the script's pool.
+    Attr { key: Units, value: Units },
     /// Shows what a client sees.
     Show { name: Units },
     /// Shows the head.
     Head,
-    /// A line of a kind that is not built yet.
-    Later,
+    /// Shows a revision.
+    Text { rev: u64 },
+    /// Shows the attributes of the head.
+    Marks,
+    /// Shows the attributes of what a client sees.
+    ViewMarks { name: Units },
 }
 
 /// Why bytes are no line.
@@ -47,9 +62,10 @@ impl From<NoMemory> for LineBad {
     }
 }
 
-/// What the bytes of a line say.
+/// What the bytes of a line say, without what ends it.
 pub fn read_line(alloc: Global, bytes: &[u8]) -> Result<Line, LineBad>
-    ensures { Gives result (line_of bytes.now) }
+    ensures line { Gives seen result (line_of bytes.now) }
+    ensures texts { IfOk result AreTexts }
 {
     match str::from_utf8(bytes) {
         Ok(text) => read_text_line(alloc, text),
@@ -58,168 +74,95 @@ pub fn read_line(alloc: Global, bytes: &[u8]) -> Result<Line, LineBad>
 }
 
 fn read_text_line(alloc: Global, text: &str) -> Result<Line, LineBad>
-    ensures { Gives result (text_line text.now) }
+    ensures line { Gives seen result (read_as (whole Line.Blank) line_with text.now) }
+    ensures texts { IfOk result AreTexts }
 {
-    if text.is_empty() || text.starts_with('#') {
+    if is_blank(text) {
         return Ok(Line::Blank);
     }
     let (word, rest) = cut_word(text);
-    if is_later(word) {
-        return Ok(Line::Later);
-    }
-    read_words(alloc, word, rest)
+    read_words(alloc, word, rest)?.ok_or(LineBad::Syntax)
 }
 
-// The first word of a text, and what stands behind the space that ends it.
-fn cut_word(text: &str) -> (&str, Option<&str>)
-    ensures word { result.0.now ≡ first_word text.now }
-    ensures rest { option_copied result.1 ≡ behind_word text.now }
+/// Whether a line says nothing.
+pub(crate) fn is_blank(text: &str) -> bool
+    ensures { result ≡ is_blank text.now }
 {
-    match text.split_once(' ') {
-        Some((word, rest)) => (word, Some(rest)),
-        None => (text, None),
-    }
+    text.is_empty() || text.starts_with('#')
 }
 
-fn is_later(word: &str) -> bool
-    ensures { result ≡ is_later word.now }
-{
-    matches!(
-        word,
-        "set"
-            | "drop"
-            | "delete"
-            | "guest"
-            | "reader"
-            | "format"
-            | "attr"
-            | "inject"
-            | "late"
-            | "lose"
-            | "resume"
-            | "crash"
-            | "text"
-            | "marks"
-    )
-}
-
-fn read_words(alloc: Global, word: &str, rest: Option<&str>) -> Result<Line, LineBad>
-    ensures { Gives result (ok_or (line_with word.now (option_copied rest.entry)) LineBad.Syntax) }
+fn read_words(alloc: Global, word: &str, rest: Option<&str>) -> Result<Option<Line>, NoMemory>
+    ensures line { IfOk result (λ o. option_map seen o ≡ line_with word.now (option_copied rest.entry)) }
+    ensures texts { IfOk result (λ o. IfSome o AreTexts) }
 {
     match word {
         "create" => read_create(alloc, rest),
-        "insert" => read_insert(alloc, rest),
-        "head" => read_head(rest),
-        _ => read_named(word, read_name(alloc, rest)?),
+        "set" => read_set(alloc, rest),
+        "drop" => Ok(alone(Line::Event(Event::Delete), rest)),
+        "insert" => read_edit(alloc, rest, read_insert(alloc, behind(rest))?),
+        "delete" => read_edit(alloc, rest, read_delete(behind(rest))),
+        "format" => read_edit(alloc, rest, read_format(alloc, behind(rest))?),
+        "attr" => read_attr(alloc, rest),
+        "inject" => read_inject(alloc, rest),
+        "crash" => read_crash(alloc, rest),
+        "head" => Ok(alone(Line::Head, rest)),
+        "text" => Ok(read_revision(rest)),
+        "marks" => read_marks(alloc, rest),
+        _ => read_named(alloc, word, rest),
     }
-}
-
-fn read_create(alloc: Global, rest: Option<&str>) -> Result<Line, LineBad>
-    ensures { Gives result (ok_or (create_line (option_copied rest.entry)) LineBad.Syntax) }
-{
-    match rest {
-        Some(text) => {
-            let text = read_text(alloc, text)?;
-            Ok(Line::Event(Event::Create { text }))
-        }
-        None => Ok(Line::Event(Event::Create {
-            text: Units::new(alloc),
-        })),
-    }
-}
-
-fn read_insert(alloc: Global, rest: Option<&str>) -> Result<Line, LineBad>
-    ensures { Gives result (ok_or (insert_line (option_copied rest.entry)) LineBad.Syntax) }
-{
-    let (name, rest) = cut_word(rest.ok_or(LineBad::Syntax)?);
-    let name = read_name(alloc, Some(name))?;
-    read_insert_at(alloc, name, rest)
-}
-
-fn read_insert_at(alloc: Global, name: Units, rest: Option<&str>) -> Result<Line, LineBad>
-    ensures { Gives result (ok_or (insert_at name (option_copied rest.entry)) LineBad.Syntax) }
-{
-    let (at, rest) = cut_word(rest.ok_or(LineBad::Syntax)?);
-    let at = read_number(at).ok_or(LineBad::Syntax)?;
-    let text = read_text(alloc, rest.ok_or(LineBad::Syntax)?)?;
-    inserting(name, at, text)
-}
-
-fn inserting(name: Units, at: u32, text: Units) -> Result<Line, LineBad>
-    ensures { result ≡ ok_or (inserts name at text) LineBad.Syntax }
-{
-    if text.is_empty() {
-        return Err(LineBad::Syntax);
-    }
-    Ok(Line::Event(Event::Edit {
-        name,
-        edit: Local::Insert { at, text },
-    }))
-}
-
-fn read_head(rest: Option<&str>) -> Result<Line, LineBad>
-    ensures { result ≡ ok_or (head_line (option_copied rest.entry)) LineBad.Syntax }
-{
-    match rest {
-        None => Ok(Line::Head),
-        Some(_) => Err(LineBad::Syntax),
-    }
-}
-
-fn read_named(word: &str, name: Units) -> Result<Line, LineBad>
-    ensures { result ≡ ok_or (named_line word.now name) LineBad.Syntax }
-{
-    match word {
-        "login" => Ok(Line::Event(Event::Login { name })),
-        "submit" => Ok(Line::Event(Event::Submit { name })),
-        "take" => Ok(Line::Event(Event::Take { name })),
-        "push" => Ok(Line::Event(Event::Push { name })),
-        "hear" => Ok(Line::Event(Event::Hear { name })),
-        "show" => Ok(Line::Show { name }),
-        _ => Err(LineBad::Syntax),
-    }
-}
-
-fn read_name(alloc: Global, rest: Option<&str>) -> Result<Units, LineBad>
-    ensures { Gives result (ok_or (name_in (option_copied rest.entry)) LineBad.Syntax) }
-{
-    match rest {
-        Some(name) if is_name(name.as_bytes()) => Ok(Units::from_str(alloc, name)?),
-        _ => Err(LineBad::Syntax),
-    }
-}
-
-fn read_text(alloc: Global, text: &str) -> Result<Units, LineBad>
-    ensures { Gives result (ok_or (text_in text.now) LineBad.Syntax) }
-{
-    let written = Units::from_str(alloc, text)?;
-    unescape(alloc, &written)?.ok_or(LineBad::Syntax)
 }
 
 #[cfg(test)]
 mod tests {
     use super::*;
+    use ep_event::{Local, StopAt};
+    use ep_outside::Image;
     use std::test::Fail;
 
     fn told(alloc: Global, line: Line) -> Result<String, NoMemory> {
         match line {
             Line::Blank => Ok(String::from_str(alloc, "nothing")?),
             Line::Event(event) => told_event(alloc, event),
+            Line::Inject { name, base, text } => {
+                let name = name.to_text_lossy(alloc)?;
+                let text = text.to_text_lossy(alloc)?;
+                Ok(format!(in alloc; "inject [{name}] [{base}] [{text}]")?)
+            }
+            Line::Attr { key, value } => {
+                let key = key.to_text_lossy(alloc)?;
+                let value = value.to_text_lossy(alloc)?;
+                Ok(format!(in alloc; "attr [{key}] [{value}]")?)
+            }
             Line::Show { name } => named(alloc, "show", name),
             Line::Head => Ok(String::from_str(alloc, "head")?),
-            Line::Later => Ok(String::from_str(alloc, "later")?),
+            Line::Text { rev } => Ok(format!(in alloc; "text [{rev}]")?),
+            Line::Marks => Ok(String::from_str(alloc, "marks")?),
+            Line::ViewMarks { name } => named(alloc, "marks of", name),
         }
     }
 
     fn told_event(alloc: Global, event: Event) -> Result<String, NoMemory> {
         match event {
             Event::Create { text } => named(alloc, "create", text),
+            Event::SetText { text } => named(alloc, "set", text),
+            Event::Delete => Ok(String::from_str(alloc, "drop")?),
             Event::Login { name } => named(alloc, "login", name),
+            Event::Guest { name, read_only } => {
+                named(alloc, if read_only { "reader" } else { "guest" }, name)
+            }
             Event::Edit { name, edit } => told_edit(alloc, name, edit),
             Event::Submit { name } => named(alloc, "submit", name),
+            Event::Inject { name, .. } => named(alloc, "injected", name),
             Event::Take { name } => named(alloc, "take", name),
+            Event::Late { name } => named(alloc, "late", name),
             Event::Push { name } => named(alloc, "push", name),
             Event::Hear { name } => named(alloc, "hear", name),
+            Event::Lose { name } => named(alloc, "lose", name),
+            Event::Resume { name } => named(alloc, "resume", name),
+            Event::Stop { at } => match at {
+                Some(at) => told_stop(alloc, at),
+                None => Ok(String::from_str(alloc, "crash")?),
+            },
         }
     }
 
@@ -233,6 +176,30 @@ mod tests {
             Local::Delete { at, units } => Ok(format!(in alloc;
                 "delete [{name}] [{at}] [{units}]"
             )?),
+            Local::Format {
+                at,
+                units,
+                key,
+                value,
+            } => {
+                let key = key.to_text_lossy(alloc)?;
+                let value = value.to_text_lossy(alloc)?;
+                Ok(format!(in alloc; "format [{name}] [{at}] [{units}] [{key}] [{value}]")?)
+            }
+        }
+    }
+
+    fn told_stop(alloc: Global, at: StopAt) -> Result<String, NoMemory> {
+        let StopAt { name, calls, image } = at;
+        let name = name.to_text_lossy(alloc)?;
+        match image {
+            Image::Old => Ok(format!(in alloc; "crash [{name}] [{calls}] old")?),
+            Image::New => Ok(format!(in alloc; "crash [{name}] [{calls}] new")?),
+            Image::Torn { length, fill } => {
+                let bytes = fill.len();
+                let byte = fill.first().copied().unwrap_or(0);
+                Ok(format!(in alloc; "crash [{name}] [{calls}] [{length}] {bytes} of [{byte}]")?)
+            }
         }
     }
 
@@ -249,19 +216,50 @@ mod tests {
             ("create", "create []"),
             ("create ", "create []"),
             ("create a\\nb\\t\\\\ \"", "create [a\nb\t\\ \"]"),
+            ("create  a", "create [ a]"),
+            ("set", "set []"),
+            ("set \"$cxc", "set [\"$cxc]"),
+            ("drop", "drop"),
             ("login A", "login [A]"),
             ("login abcdefghijklmn16", "login [abcdefghijklmn16]"),
+            ("guest G", "guest [G]"),
+            ("reader R", "reader [R]"),
             ("insert A 007 x", "insert [A] [7] [x]"),
             ("insert A 1  x", "insert [A] [1] [ x]"),
             ("insert A 4294967295 😀", "insert [A] [4294967295] [😀]"),
+            ("delete A 2 0", "delete [A] [2] [0]"),
+            (
+                "format B 1 3 q\"\\\\\\n\\tz v v",
+                "format [B] [1] [3] [q\"\\\n\tz] [v v]",
+            ),
+            ("format A 0 1 k", "format [A] [0] [1] [k] []"),
+            ("format A 0 1 k ", "format [A] [0] [1] [k] []"),
+            ("attr 😀k 😀", "attr [😀k] [😀]"),
+            ("attr k", "attr [k] []"),
+            ("attr k ", "attr [k] []"),
+            (
+                "inject G 18446744073709551615 Z:1>1+1$\\n",
+                "inject [G] [18446744073709551615] [Z:1>1+1$\n]",
+            ),
             ("submit A", "submit [A]"),
             ("take A", "take [A]"),
+            ("late A", "late [A]"),
             ("push A", "push [A]"),
             ("hear A", "hear [A]"),
+            ("lose A", "lose [A]"),
+            ("resume A", "resume [A]"),
+            ("crash", "crash"),
+            ("crash Dx9 3 old", "crash [Dx9] [3] old"),
+            ("crash A 00 new", "crash [A] [0] new"),
+            (
+                "crash C 4 0f",
+                "crash [C] [4] [18446744073709551615] 1 of [15]",
+            ),
             ("show A", "show [A]"),
             ("head", "head"),
-            ("set x", "later"),
-            ("marks", "later"),
+            ("text 04", "text [4]"),
+            ("marks", "marks"),
+            ("marks A", "marks of [A]"),
         ] {
             let read = read_line(rt.alloc(), line.as_bytes())?;
             assert_eq!(rt; told(rt.alloc(), read)?.as_str(), said, "at {line}");
@@ -274,18 +272,43 @@ mod tests {
         for line in [
             "create a\\q",
             "create a\\",
+            "create\tab",
+            "drop x",
             "login",
             "login A ",
-            "login 9",
-            "login abcdefghijklmno17",
+            "login 9a",
+            "login a_b",
+            "login é",
+            "login abcdefghijklmnopq",
             "insert A 1",
             "insert A 1 ",
-            "insert A x x",
-            "insert A +1 x",
+            "insert A  0 x",
+            "insert A x y",
             "insert A 4294967296 x",
+            "delete A +1 1",
+            "delete A 0 1 2",
+            "delete A 0 ",
+            "format A 0 1",
+            "format A 0 1  v",
+            "attr",
+            "attr  v",
+            "inject G 0",
+            "inject G 0 ",
+            "inject G 18446744073709551616 Z:1>0$",
+            "crash ",
+            "crash A",
+            "crash A 5 old",
+            "crash A 1 OLD",
+            "crash A 1 0F",
+            "crash A 1 7",
+            "crash A 1 old ",
             "head ",
-            "frob",
-            " head",
+            "text -1",
+            "text 18446744073709551616",
+            "marks A B",
+            "undo A",
+            "LOGIN A",
+            " login A",
         ] {
             let read = read_line(rt.alloc(), line.as_bytes());
             assert!(rt; matches!(read, Err(LineBad::Syntax)), "at {line}");

@@ -1,9 +1,9 @@
 //! Names, numbers and escapes, as a script writes them.
 
-ghost use Rattle.std.specs.Prelude.{◌≡◌, ◌^◌, ◌++◌, IfOk, OnOk, slice_index};
+ghost use Rattle.std.specs.Prelude.{◌≡◌, ◌^◌, IfOk, slice_index};
 ghost use Rattle.std.specs.List.{list_all};
 ghost use Rattle.std.specs.Char.{is_ascii_alphabetic, is_ascii_alphanumeric};
-ghost use Rattle.ep_script.specs.Texts.{is_name, number_below, unescaped, escape, escaped, written};
+ghost use Rattle.ep_script.specs.Texts.{is_name, number_below, hex_digit, unescaped, escape};
 
 use ep_units::{NoMemory, Units};
 use std::alloc::Global;
@@ -13,8 +13,6 @@ const BACKSLASH: u16 = b'\\' as u16;
 const LF: u16 = b'\n' as u16;
 
 const TAB: u16 = b'\t' as u16;
-
-const QUOTE: u16 = b'"' as u16;
 
 const LETTER_N: u16 = b'n' as u16;
 
@@ -40,13 +38,34 @@ pub(crate) fn is_name(bytes: &[u8]) -> bool
 }
 
 /// The number that decimal digits say, where it is below 2^32.
-pub(crate) fn read_number(text: &str) -> Option<u32>
+pub(crate) fn read_u32(text: &str) -> Option<u32>
     ensures { result ≡ number_below (2 ^ 32) text.now }
 {
     if text.starts_with('+') {
         return None;
     }
     text.parse().ok()
+}
+
+/// The number that decimal digits say, where it is below 2^64.
+pub(crate) fn read_u64(text: &str) -> Option<u64>
+    ensures { result ≡ number_below (2 ^ 64) text.now }
+{
+    if text.starts_with('+') {
+        return None;
+    }
+    text.parse().ok()
+}
+
+/// What a hexadecimal digit says; letters are lower-case.
+pub(crate) fn hex_digit(digit: u8) -> Option<u8>
+    ensures { result ≡ hex_digit digit }
+{
+    match digit {
+        b'0'..=b'9' => Some(digit - b'0'),
+        b'a'..=b'f' => Some(digit - b'a' + 10),
+        _ => None,
+    }
 }
 
 // What an escape says, for the unit behind its backslash.
@@ -84,27 +103,4 @@ pub(crate) fn unescape(alloc: Global, text: &Units) -> Result<Option<Units>, NoM
         return Ok(None);
     }
     Ok(Some(plain))
-}
-
-fn push_escaped(out: &mut Units, unit: u16) -> Result<(), NoMemory>
-    ensures { OnOk result (out.new ≡ out.old ++ written unit) }
-{
-    match unit {
-        BACKSLASH => out.push_all(&[BACKSLASH, BACKSLASH]),
-        LF => out.push_all(&[BACKSLASH, LETTER_N]),
-        TAB => out.push_all(&[BACKSLASH, LETTER_T]),
-        QUOTE => out.push_all(&[BACKSLASH, QUOTE]),
-        _ => out.push(unit),
-    }
-}
-
-/// The text with its backslashes, newlines, tabs and double quotes written as escapes.
-pub(crate) fn escape(alloc: Global, text: &Units) -> Result<Units, NoMemory>
-    ensures { IfOk result (λ t. t ≡ escaped text.now) }
-{
-    let mut out = Units::new(alloc);
-    for unit in text.as_slice() {
-        push_escaped(&mut out, *unit)?;
-    }
-    Ok(out)
 }

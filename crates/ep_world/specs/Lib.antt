@@ -1,4 +1,15 @@
+pub mod Failing
+pub mod Conns
+pub mod Actors
 pub mod Events
 pub mod Shows
-pub mod Stands
-pub mod StandsFor
+pub mod Standing
+pub mod Taking
+pub mod Sending
+pub mod Telling
+pub mod Pushing
+pub mod Members
+pub mod Stopping
+pub mod Entering
+pub mod Leading
+pub mod Reading

@@ -1,3 +1,5 @@
-pub mod Events
+pub mod Transcripts
 pub mod Playing
+pub mod Lines
+pub mod Asking
 pub mod Running

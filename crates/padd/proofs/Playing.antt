@@ -1,77 +1,114 @@
 -- A script that is played line by line.
-use Rattle.std.proofs.Common.{◌≡◌, ℕ, ◌+◌, List, [], ◌∷◌, ◌++◌, map, Option, sym, ap, ◌∙◌, subst, append-nil}
-use Rattle.std.specs.Prelude.{Result, Ok, Err, IfOk, OnErr, String}
+use Rattle.std.proofs.Common.{◌≡◌, ℕ, ◌+◌, Bool, true, length, arith, List, [], ◌∷◌, ◌++◌, map, Option, Some, None, refl, sym, ap, ◌∙◌, subst, append_assoc, append-nil}
+use Rattle.std.specs.Prelude.{Result, Ok, Err, String, ◌==◌}
+use Rattle.std.proofs.lemmas.Bool.{eqb-true}
 use Rattle.std.specs.String.{string_bytes}
 use Rattle.std.specs.declared.alloc.Global.{Global}
-use Rattle.ep_outside.specs.Outside.{Takes, TakesAllBut, TakesPart}
-use Rattle.ep_outside.proofs.Pieces.{goes_on, breaks_off, finished}
+use Rattle.ep_outside.specs.Disk.{Contents}
+use Rattle.ep_outside.specs.Outside.{Takes, TakesPart}
+use Rattle.ep_outside.proofs.Pieces.{Takes-append, Takes-nil, breaks_off, stopped}
 use Rattle.ep_script.specs.Lines.{lines_of}
 use Rattle.ep_script.specs.Line.{line_of}
 use Rattle.ep_script.specs.declared.line.Line.{Line}
 use Rattle.ep_script.specs.declared.line.LineBad.{LineBad}
-use Rattle.ep_schedule.specs.World.{WorldState}
-use Rattle.ep_world.specs.StandsFor.{StandsFor}
 use Rattle.ep_world.specs.declared.world.World.{World}
-use Rattle.padd.specs.Play.{out, world_after, reads_of, output_from, status_from, out_or, status_or, error_line, status_of_reason}
-use Rattle.padd.specs.Played.{PlaysLine}
-use Rattle.padd.specs.declared.line.Stop.TheVariants.{At}
+use Rattle.padd.specs.Ending.{EndsLines}
+use Rattle.padd.specs.Play.{Scene, Transcript, error_line, line_read, reads_of}
+use Rattle.padd.specs.Played.{IsStage, PlaysLine}
+use Rattle.padd.specs.declared.play.PlayBad.{PlayBad}
 use Rattle.padd.specs.declared.reason.Reason.{Reason}
+use Rattle.padd.specs.declared.stage.Stage.{Stage}
+use Rattle.padd.specs.declared.stage.Stop.TheVariants.{At}
+use Rattle.padd.proofs.Transcripts.{goes, some, stops-here}
 
--- the world stands where the lines that are left begin; what they write is all that is left, and their status is the script's
-pub record IsPlaying (world : World) (held now : Option (List ℕ)) (all : List ℕ) (status k : ℕ) (reads : List (Result Line LineBad)) : Type 0 where
-  pub at : WorldState
-  pub stands : StandsFor world at
-  pub left : TakesAllBut held now all (output_from k at reads)
-  pub told : status ≡ status_from k at reads
+abbrev Reads : Type 0
+Reads = List (Result Line LineBad)
 
-pub first_read : (script line behind : List ℕ) → lines_of script ≡ line ∷ lines_of behind → reads_of script ≡ line_of line ∷ reads_of behind
-first_read script line behind e = ap (map line_of) e
+pub first_read : (script line behind : List ℕ) → lines_of script ≡ line ∷ lines_of behind → reads_of script ≡ line_read (line_of line) ∷ reads_of behind
+first_read script line behind e = ap (map (λ bytes. line_read (line_of bytes))) e
 
-module _ (world world' : World) (a b c : Option (List ℕ)) (all : List ℕ) (status k : ℕ) (rs behind : List (Result Line LineBad)) (r : Result Line LineBad) (is : rs ≡ r ∷ behind)
-    (p : IsPlaying world a b all status k rs) where
-  -- the line is played, and what it writes is left first
-  module _ (text : String Global) (played : PlaysLine p.at k r (Ok text) world') where
-    line_left : TakesAllBut a b all (string_bytes text ++ output_from (k + 1) (world_after k p.at r) behind)
-    line_left = subst (λ o. TakesAllBut a b all o)
-        (ap (output_from k p.at) is ∙ ap (λ s. out_or k s (out k p.at r ++ output_from (k + 1) (world_after k p.at r) behind)) played.0
-        ∙ ap (λ t. t ++ output_from (k + 1) (world_after k p.at r) behind) (sym played.1)) p.left
+-- an empty script has no lines
+pub nothing_left : (xs : List ℕ) (b : Bool) → b ≡ (length xs == 0) → b ≡ true → reads_of xs ≡ []
+nothing_left [] b e t = refl
+nothing_left (x ∷ xs) b e t = absurd (let k : length (x ∷ xs) ≡ 0 = eqb-true (length (x ∷ xs)) 0 (sym e ∙ t) in omega (arith, k))
 
-    pub line_goes : Takes b c (string_bytes text) → IsPlaying world' a c all status (k + 1) behind
-    line_goes t = record {
-      at = world_after k p.at r;
-      stands = played.2;
-      left = goes_on a b c all (string_bytes text) _ line_left t;
-      told = p.told ∙ ap (status_from k p.at) is ∙ ap (λ s. status_or s (status_from (k + 1) (world_after k p.at r) behind)) played.0;
-    }
+module _ {D : Type 0} (told : D → Option Contents) (failures : D → ℕ) where
+  -- the stage stands where the lines that are left begin; and any transcript of these goes on what was written
+  pub record IsPlaying (stage : Stage D) (first : Scene) (held now : Option (List ℕ)) (all : Reads) (k : ℕ) (reads : Reads) : Type 0 where
+    pub at : Scene
+    pub stands : IsStage told failures stage at
+    pub gone : List ℕ
+    pub takes : Takes held now gone
+    pub leads : (rest : List ℕ) (status : ℕ) (end : Scene) → Transcript k at reads rest status end → Transcript 1 first all (gone ++ rest) status end
 
-    pub line_breaks : TakesPart b c (string_bytes text) → TakesPart a c all
-    line_breaks t = breaks_off a b c all (string_bytes text) _ line_left t
+  pub begun : (stage : Stage D) (s : Scene) (held : Option (List ℕ)) (all : Reads) → IsStage told failures stage s → IsPlaying stage s held held all 1 all
+  begun stage s held all h = record { at = s; stands = h; gone = []; takes = Takes-nil held; leads = λ rest status end t. t }
 
-  -- the line ends the script
-  module _ (reason : Reason) (played : PlaysLine p.at k r (Err (At reason)) world') where
-    end_left : TakesAllBut a b all (error_line k reason ++ [])
-    end_left = subst (λ o. TakesAllBut a b all o)
-        (ap (output_from k p.at) is ∙ ap (λ s. out_or k s (out k p.at r ++ output_from (k + 1) (world_after k p.at r) behind)) played.0
-        ∙ sym (append-nil (error_line k reason))) p.left
+  module _ (stage new : Stage D) (first : Scene) (a b c : Option (List ℕ)) (all : Reads) (k : ℕ) (reads behind : Reads) (r : Result Line LineBad) (is : reads ≡ r ∷ behind)
+      (p : IsPlaying stage first a b all k reads) where
+    -- a transcript of the lines that are left
+    from-here : (out : List ℕ) (status : ℕ) (end : Scene) → Transcript k p.at (r ∷ behind) out status end → Transcript 1 first all (p.gone ++ out) status end
+    from-here out status end t = p.leads out status end (subst (λ rs. Transcript k p.at rs out status end) (sym is) t)
 
-    pub end_whole : Takes b c (error_line k reason) → Takes a c all
-    end_whole t = finished a c all (goes_on a b c all (error_line k reason) [] end_left t)
+    -- the line is played
+    module _ (text : String Global) (played : PlaysLine told failures k p.at r (Ok text) new) where
+      on : (rest : List ℕ) (status : ℕ) (end : Scene) → Transcript (k + 1) played.1.1 behind rest status end
+          → Transcript 1 first all (p.gone ++ (string_bytes text ++ rest)) status end
+      on rest status end t =
+          subst (λ w. Transcript 1 first all (p.gone ++ (w ++ rest)) status end) (sym played.1.3)
+          (from-here _ status end (goes k p.at r behind played.1.0 played.1.1 rest status end played.0 played.1.2 t))
 
-    pub end_breaks : TakesPart b c (error_line k reason) → TakesPart a c all
-    end_breaks t = breaks_off a b c all (error_line k reason) [] end_left t
+      pub line_goes : Takes b c (string_bytes text) → IsPlaying new first a c all (k + 1) behind
+      line_goes t = record {
+        at = played.1.1;
+        stands = played.1.4;
+        gone = p.gone ++ string_bytes text;
+        takes = Takes-append a b c p.gone (string_bytes text) p.takes t;
+        leads = λ rest status end tr. subst (λ w. Transcript 1 first all w status end) (sym (append_assoc p.gone (string_bytes text) rest)) (on rest status end tr);
+      }
 
-    pub end_status : status ≡ status_of_reason reason
-    end_status = p.told ∙ ap (status_from k p.at) is ∙ ap (λ s. status_or s (status_from (k + 1) (world_after k p.at r) behind)) played.0
+      pub line_breaks : TakesPart b c (string_bytes text) → (bad : PlayBad) → EndsLines told failures first all a c (Err bad)
+      line_breaks t bad =
+          let x = some (k + 1) played.1.1 behind in (
+            p.gone ++ (string_bytes text ++ x.0),
+            x.1,
+            x.2,
+            on x.0 x.1 x.2 x.3,
+            breaks_off a b c _ (string_bytes text) x.0 (record { gone = p.gone; whole = refl; takes = p.takes }) t,
+          )
 
-pub mapped_err : {T E : Type 0} (r : Result T E) (P Q : Type 0) → (P → Q) → OnErr r P → OnErr r Q
-mapped_err (Ok x) P Q f p = tt
-mapped_err (Err e) P Q f p = f p
+    -- it ends the script
+    module _ (reason : Reason) (played : PlaysLine told failures k p.at r (Err (At reason)) new) where
+      here : Transcript 1 first all (p.gone ++ error_line k reason) 3 p.at
+      here = from-here (error_line k reason) 3 p.at (stops-here k p.at r behind reason played)
 
-pub mapped_ok : {T E : Type 0} (r : Result T E) (P Q : T → Type 0) → ((x : T) → P x → Q x) → IfOk r P → IfOk r Q
-mapped_ok (Ok x) P Q f p = f x p
-mapped_ok (Err e) P Q f p = tt
+      pub end_whole : Takes b c (error_line k reason) → EndsLines told failures first all a c (Ok None)
+      end_whole t = (p.at, (p.gone ++ error_line k reason, here, Takes-append a b c p.gone (error_line k reason) p.takes t))
 
--- the code of a reason is the status
-pub told_code : {E : Type 0} (r : Result ℕ E) (told status : ℕ) → status ≡ told → IfOk r (λ code. code ≡ told) → IfOk r (λ code. code ≡ status)
-told_code (Ok code) told status e h = h ∙ sym e
-told_code (Err bad) told status e h = tt
+      pub end_breaks : TakesPart b c (error_line k reason) → (bad : PlayBad) → EndsLines told failures first all a c (Err bad)
+      end_breaks t bad = (
+        p.gone ++ error_line k reason,
+        3,
+        p.at,
+        here,
+        breaks_off a b c _ (error_line k reason) [] (record { gone = p.gone; whole = ap (λ w. p.gone ++ w) (sym (append-nil (error_line k reason))); takes = p.takes }) t,
+      )
+
+  module _ (stage : Stage D) (first : Scene) (a b : Option (List ℕ)) (all : Reads) (k : ℕ) (reads : Reads) (p : IsPlaying stage first a b all k reads) where
+    -- nothing more can be played
+    pub breaks : (bad : PlayBad) → EndsLines told failures first all a b (Err bad)
+    breaks bad =
+        let x = some k p.at reads in
+        (p.gone ++ x.0, x.1, x.2, p.leads x.0 x.1 x.2 x.3, stopped a b _ x.0 (record { gone = p.gone; whole = refl; takes = p.takes }))
+
+    -- all were played
+    pub ended : reads ≡ [] → EndsLines told failures first all a b (Ok (Some stage.world))
+    ended e = (
+      p.at,
+      (p.gone ++ [], p.leads [] 0 p.at (subst (λ rs. Transcript k p.at rs [] 0 p.at) (sym e) (refl, refl, refl)), subst (λ w. Takes a b w) (sym (append-nil p.gone)) p.takes),
+      p.stands.run,
+      p.stands.world,
+    )
+
+  pub ends-as : (first : Scene) (a b : Option (List ℕ)) (all : Reads) (r q : Result (Option (World D)) PlayBad) → r ≡ q → EndsLines told failures first all a b q → EndsLines told failures first all a b r
+  ends-as first a b all r q is h = subst (λ r. EndsLines told failures first all a b r) (sym is) h

@@ -1,5 +1,6 @@
 pub mod Play
 pub mod Stops
 pub mod Played
+pub mod Ending
 pub mod Run
 pub mod Standard

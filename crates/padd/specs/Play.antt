@@ -1,21 +1,70 @@
--- What a script writes, and the status that it ends with.
-use Rattle.std.specs.Prelude.{ℕ, ◌+◌, Bool, if◌then◌else◌, nat_le, List, [], ◌∷◌, ◌++◌, codes, length, map, Option, Some, None, is_some, Result, Ok, Err}
+-- What a script may write, and the status that it ends with.
+use Rattle.std.specs.Prelude.{◌≡◌, ℕ, ◌+◌, Bool, true, false, nat_le, List, [], ◌∷◌, ◌++◌, codes, length, map, Option, Some, None, IsSome, MatchOption, Result, Ok, Err}
 use Rattle.std.specs.Fmt.{decimal}
+use Rattle.ep_units.specs.Text.{Text}
+use Rattle.ep_attr.specs.AttrMap.{Pair}
+use Rattle.ep_pool.specs.Pool.{put, number_of}
+use Rattle.ep_csread.specs.Reading.{reading}
+use Rattle.ep_outside.specs.declared.image.Image.TheVariants.{Old}
+use Rattle.ep_outside.specs.declared.limits.Limits.{Limits}
+use Rattle.ep_history.specs.declared.pad_bad.PadBad.TheVariants.{JournalFull}
+use Rattle.ep_schedule.specs.World.{WorldState, Event, start}
+use Rattle.ep_schedule.specs.Kepts.{Kepts, nobodies}
+use Rattle.ep_event.specs.declared.event.Event.{Event as Told}
+use Rattle.ep_event.specs.declared.event.Event.TheVariants as event
+use Rattle.ep_event.specs.declared.shown.Shown.{Shown}
+use Rattle.ep_event.specs.declared.shown.Shown.TheVariants as shown
 use Rattle.ep_script.specs.Lines.{lines_of}
 use Rattle.ep_script.specs.Line.{line_of}
-use Rattle.ep_script.specs.Printed.{printed}
+use Rattle.ep_script.specs.Seen.{Seen, whole, stopped}
 use Rattle.ep_script.specs.declared.line.Line.{Line}
 use Rattle.ep_script.specs.declared.line.Line.TheVariants as line
 use Rattle.ep_script.specs.declared.line.LineBad.{LineBad}
 use Rattle.ep_script.specs.declared.line.LineBad.TheVariants as bad
-use Rattle.ep_script.specs.declared.shown.Shown.{Shown}
-use Rattle.ep_schedule.specs.World.{WorldState, start}
-use Rattle.ep_world.specs.Events.{world_limits, after_event, is_known, is_built}
-use Rattle.ep_world.specs.Shows.{shows, shows_head, shows_view}
+use Rattle.ep_print.specs.Printed.{printed}
+use Rattle.ep_world.specs.Events.{event_at, happened, kept_happened, is_client, is_guest, is_known}
+use Rattle.ep_world.specs.Shows.{shows, shows_head, shows_marks, shows_text, shows_view, shows_view_marks}
+use Rattle.ep_world.specs.Standing.{no_room, overfull_at}
 use Rattle.padd.specs.declared.reason.Reason.{Reason}
-use Rattle.padd.specs.declared.reason.Reason.TheVariants.{Utf8, Syntax, Unknown, NotBuilt}
+use Rattle.padd.specs.declared.reason.Reason.TheVariants.{Utf8, Syntax, Unknown}
 
--- ---- one line
+-- ---- the lines of a script
+
+-- a line, of what is seen of it. What a stop leaves of the file is nothing to the rules: of the disk they know only
+-- whether it kept the record.
+abbrev pub line_seen : Seen → Line
+line_seen (whole l) = l
+line_seen (stopped n calls left) = line.Event (event.Stop (Some (record { name = n; calls = calls; image = Old })))
+
+abbrev pub line_read : Result Seen LineBad → Result Line LineBad
+line_read (Ok seen) = Ok (line_seen seen)
+line_read (Err bad) = Err bad
+
+-- what each line of a script is
+abbrev pub reads_of : List ℕ → List (Result Line LineBad)
+reads_of script = map (λ bytes. line_read (line_of bytes)) (lines_of script)
+
+-- ---- what stands between two lines
+
+-- the world of the rules, its clients as they are kept, and the script's pool
+pub record Scene : Type 0 where
+  pub world : WorldState
+  pub kepts : Kepts
+  pub pool : List Pair
+
+-- an event happens, where there is one
+abbrev pub after : Scene → Option Event → Scene
+after s e = record { world = happened s.world e; kepts = kept_happened s.world s.kepts e; pool = s.pool }
+
+-- the pair goes to the pool's end, where it isn't there
+abbrev pub with_pair : Scene → Pair → Scene
+with_pair s pair = record { world = s.world; kepts = s.kepts; pool = put s.pool pair }
+
+-- what a script begins with: no pad of this id yet, nobody, and no pair
+abbrev pub opening : Limits → Text → Scene
+opening limits id = record { world = start limits id; kepts = nobodies; pool = [] }
+
+-- ---- why a line isn't played
 
 -- why bytes are no line; a definition never says that memory ran out
 abbrev pub reason_of : LineBad → Reason
@@ -23,99 +72,89 @@ reason_of bad.Utf8 = Utf8
 reason_of bad.Syntax = Syntax
 reason_of bad.NoMemory = Syntax
 
--- why a line isn't played, if it isn't
-abbrev pub line_stops : WorldState → Line → Option Reason
-line_stops w line.Blank = None
-line_stops w (line.Event e) = if is_known w e then (if is_built w e then None else Some NotBuilt) else Some Unknown
-line_stops w (line.Show name) = if is_some (shows_view w name) then None else Some Unknown
-line_stops w line.Head = None
-line_stops w line.Later = Some NotBuilt
+abbrev pub unless : Bool → Option Reason
+unless true = None
+unless false = Some Unknown
 
+-- a line that needs a client or a guest, and names none, isn't played
+abbrev pub line_stops : WorldState → Line → Option Reason
+line_stops w (line.Event e) = unless (is_known w e)
+line_stops w (line.Inject n base text) = unless (is_guest (w.actors n))
+line_stops w (line.Show n) = unless (is_client (w.actors n))
+line_stops w (line.ViewMarks n) = unless (is_client (w.actors n))
+line_stops w l = None
+
+-- nor is what is no line
 abbrev pub stops : WorldState → Result Line LineBad → Option Reason
 stops w (Ok l) = line_stops w l
 stops w (Err bad) = Some (reason_of bad)
 
-abbrev pub view_out : Option Shown → List ℕ
-view_out None = []
-view_out (Some shown) = printed shown
+-- ---- what a line shows
 
--- what a line writes; the moment of line k is k milliseconds
-abbrev pub line_out : ℕ → WorldState → Line → List ℕ
-line_out k w line.Blank = []
-line_out k w (line.Event e) = printed (shows w k e)
-line_out k w (line.Show name) = view_out (shows_view w name)
-line_out k w line.Head = printed (shows_head w)
-line_out k w line.Later = []
+-- Line k is an event, at the moment of k milliseconds: it happens, and is shown. Of a stop the disk decides whether the
+-- record of the take that it came into is kept. Or the journal has no room for the record, and says so.
+pub data Happens (k : ℕ) (s : Scene) (e : Told) (o : Option Shown) (next : Scene) : Type 0 where
+  IsEvent : (kept : Bool) → o ≡ Some (shows s.world k kept e) → next ≡ after s (event_at s.world k kept e) → Happens k s e o next
+  HasNoRoom : (bytes : ℕ) → o ≡ no_room e (JournalFull bytes) → IsSome o → next ≡ after s (overfull_at e) → Happens k s e o next
 
--- what is no line writes nothing
-abbrev pub out : ℕ → WorldState → Result Line LineBad → List ℕ
-out k w (Ok l) = line_out k w l
-out k w (Err bad) = []
+-- what line k may show, and what stands behind it. A guest's text is read with the script's pool as it is now.
+abbrev pub Shows : ℕ → Scene → Line → Option Shown → Scene → Type 0
+Shows k s line.Blank o next = (o ≡ None) × (next ≡ s)
+Shows k s (line.Event e) o next = Happens k s e o next
+Shows k s (line.Inject n base text) o next = Happens k s (event.Inject n base (reading s.pool text)) o next
+Shows k s (line.Attr key value) o next = (o ≡ Some (shown.Attr (number_of s.pool (key, value)))) × (next ≡ with_pair s (key, value))
+Shows k s (line.Show n) o next = (o ≡ shows_view s.world n) × (next ≡ s)
+Shows k s line.Head o next = (o ≡ Some (shows_head s.world.pad)) × (next ≡ s)
+Shows k s (line.Text rev) o next = (o ≡ Some (shows_text s.world.pad rev)) × (next ≡ s)
+Shows k s line.Marks o next = (o ≡ Some (shows_marks s.world.pad)) × (next ≡ s)
+Shows k s (line.ViewMarks n) o next = (o ≡ shows_view_marks s.world n) × (next ≡ s)
 
--- the world behind line k
-abbrev pub world_after : ℕ → WorldState → Result Line LineBad → WorldState
-world_after k w (Ok (line.Event e)) = after_event w k e
-world_after k w (Ok line.Blank) = w
-world_after k w (Ok (line.Show name)) = w
-world_after k w (Ok line.Head) = w
-world_after k w (Ok line.Later) = w
-world_after k w (Err bad) = w
+abbrev pub ShowsRead : ℕ → Scene → Result Line LineBad → Option Shown → Scene → Type 0
+ShowsRead k s (Ok l) o next = Shows k s l o next
+ShowsRead k s (Err bad) o next = ⊥
+
+-- what is shown is written, as a line of output
+abbrev pub written : Option Shown → List ℕ
+written None = []
+written (Some x) = printed x
 
 -- ---- a script
-
--- what each line of a script is
-abbrev pub reads_of : List ℕ → List (Result Line LineBad)
-reads_of script = map line_of (lines_of script)
 
 abbrev pub reason_text : Reason → List ℕ
 reason_text Utf8 = codes " utf8\n"
 reason_text Syntax = codes " syntax\n"
 reason_text Unknown = codes " unknown\n"
-reason_text NotBuilt = codes " notbuilt\n"
 
 -- why line k ends the script
 abbrev pub error_line : ℕ → Reason → List ℕ
 error_line k reason = codes "error line " ++ decimal k ++ reason_text reason
 
-abbrev pub status_of_reason : Reason → ℕ
-status_of_reason Utf8 = 3
-status_of_reason Syntax = 3
-status_of_reason Unknown = 3
-status_of_reason NotBuilt = 12
+-- A transcript of lines, the first of which has the number k: each writes what it may show, up to the first that isn't
+-- played, of which the reason is written. The status is 0, or 3 where there is such a line. What stands then is `end`.
+abbrev pub Transcript : ℕ → Scene → List (Result Line LineBad) → List ℕ → ℕ → Scene → Type 0
+Transcript k s [] out status end = (out ≡ []) × (status ≡ 0) × (end ≡ s)
+Transcript k s (r ∷ rs) out status end = MatchOption (stops s.world r)
+    ((o : Option Shown) × (next : Scene) × (rest : List ℕ) × ShowsRead k s r o next × (out ≡ written o ++ rest) × Transcript (k + 1) next rs rest status end)
+    (λ reason. (out ≡ error_line k reason) × (status ≡ 3) × (end ≡ s))
 
-abbrev pub out_or : ℕ → Option Reason → List ℕ → List ℕ
-out_or k None text = text
-out_or k (Some reason) text = error_line k reason
+-- of a script on a pad of this id, under these limits
+abbrev pub TranscriptOf : Limits → Text → List ℕ → List ℕ → ℕ → Scene → Type 0
+TranscriptOf limits id script out status end = Transcript 1 (opening limits id) (reads_of script) out status end
 
-abbrev pub status_or : Option Reason → ℕ → ℕ
-status_or None status = status
-status_or (Some reason) status = status_of_reason reason
-
--- what lines write, the first of which has the number k: each its own, up to the first that isn't played
-abbrev pub output_from : ℕ → WorldState → List (Result Line LineBad) → List ℕ
-output_from k w [] = []
-output_from k w (r ∷ rs) = out_or k (stops w r) (out k w r ++ output_from (k + 1) (world_after k w r) rs)
-
--- the status of such lines
-abbrev pub status_from : ℕ → WorldState → List (Result Line LineBad) → ℕ
-status_from k w [] = 0
-status_from k w (r ∷ rs) = status_or (stops w r) (status_from (k + 1) (world_after k w r) rs)
+-- ---- its length
 
 -- the most bytes that a script may have
 abbrev pub most_bytes : ℕ
 most_bytes = 1048576
 
-abbrev pub is_short : List ℕ → Bool
-is_short script = nat_le (length script) most_bytes
+-- what is written of a longer one
+abbrev pub too_long : List ℕ
+too_long = codes "error line 0 notbuilt\n"
 
--- the world that a script begins with: of a pad that has no group
-abbrev pub empty : WorldState
-empty = start world_limits (codes "pad")
+abbrev pub IsTranscriptIf : Bool → Text → List ℕ → List ℕ → ℕ → Type 0
+IsTranscriptIf true id script out status = (limits : Limits) × (end : Scene) × TranscriptOf limits id script out status end
+IsTranscriptIf false id script out status = (out ≡ too_long) × (status ≡ 12)
 
--- what a script writes: the transcript of its lines
-abbrev pub output_of : List ℕ → List ℕ
-output_of script = if is_short script then output_from 1 empty (reads_of script) else error_line 0 NotBuilt
-
--- its status: 0, or why it ended early
-abbrev pub status_of : List ℕ → ℕ
-status_of script = if is_short script then status_from 1 empty (reads_of script) else 12
+-- a script may write this, under some limits, and then ends with this status
+abbrev pub IsTranscript : Text → List ℕ → List ℕ → ℕ → Type 0
+IsTranscript id script out status = IsTranscriptIf (nat_le (length script) most_bytes) id script out status

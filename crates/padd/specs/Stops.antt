@@ -1,7 +1,7 @@
 -- Which refusals end a script at a line.
 use Rattle.padd.specs.declared.reason.Reason.TheVariants as reason
-use Rattle.padd.specs.declared.line.Stop.{Stop}
-use Rattle.padd.specs.declared.line.Stop.TheVariants.{At, NoMemory}
+use Rattle.padd.specs.declared.stage.Stop.{Stop}
+use Rattle.padd.specs.declared.stage.Stop.TheVariants.{At, Failed}
 use Rattle.ep_script.specs.declared.line.LineBad.{LineBad}
 use Rattle.ep_script.specs.declared.line.LineBad.TheVariants as line
 use Rattle.ep_world.specs.declared.bad.WorldBad.{WorldBad}
@@ -9,10 +9,12 @@ use Rattle.ep_world.specs.declared.bad.WorldBad.TheVariants as world
 
 abbrev pub stop_of_world : WorldBad → Stop
 stop_of_world world.Unknown = At reason.Unknown
-stop_of_world world.NotBuilt = At reason.NotBuilt
-stop_of_world world.NoMemory = NoMemory
+stop_of_world world.NoText = Failed
+stop_of_world (world.Full n) = Failed
+stop_of_world (world.Store n) = Failed
+stop_of_world world.NoMemory = Failed
 
 abbrev pub stop_of_line : LineBad → Stop
 stop_of_line line.Utf8 = At reason.Utf8
 stop_of_line line.Syntax = At reason.Syntax
-stop_of_line line.NoMemory = NoMemory
+stop_of_line line.NoMemory = Failed

@@ -3,11 +3,14 @@
 //! All that the program does is `run`, over any source and sink; `main` makes the real ones.
 #![tactic(auto)]
 
-mod line;
 mod play;
 mod reason;
 mod run;
+mod say;
+mod stage;
 mod standard;
+mod status;
+mod words;
 
 use run::run;
 use standard::{StdSink, StdSource};
@@ -16,7 +19,7 @@ use std::process::ExitCode;
 use std::{env, io};
 
 /// The words behind the program's name, or none where one is not UTF-8.
-fn words(rt: &HostRuntime) -> io::Result<Vec<String>> {
+fn given_words(rt: &HostRuntime) -> io::Result<Vec<String>> {
     let mut words = Vec::new(rt.alloc());
     let args = match env::args(rt) {
         Err(error) if error.kind() == ErrorKind::InvalidData => return Ok(words),
@@ -29,7 +32,7 @@ fn words(rt: &HostRuntime) -> io::Result<Vec<String>> {
 }
 
 fn main(rt: HostRuntime) -> ExitCode {
-    let Ok(words) = words(&rt) else {
+    let Ok(words) = given_words(&rt) else {
         return ExitCode::from(7);
     };
     let mut source = StdSource::new(rt.reader());

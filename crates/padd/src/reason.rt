@@ -2,7 +2,7 @@
 
 ghost use Rattle.std.specs.Prelude.{◌≡◌, IfOk};
 ghost use Rattle.std.specs.String.{string_bytes};
-ghost use Rattle.padd.specs.Play.{error_line, status_of_reason};
+ghost use Rattle.padd.specs.Play.{error_line};
 
 use std::alloc::{AllocError, Global};
 
@@ -13,10 +13,8 @@ pub enum Reason {
     Utf8,
     /// It is no line of the grammar.
     Syntax,
-    /// It names nobody.
+    /// It names nobody of the kind that it needs.
     Unknown,
-    /// What it asks for is not built yet.
-    NotBuilt,
 }
 
 impl Reason {
@@ -28,17 +26,6 @@ impl Reason {
             Reason::Utf8 => format!(in alloc; "error line {k} utf8\n"),
             Reason::Syntax => format!(in alloc; "error line {k} syntax\n"),
             Reason::Unknown => format!(in alloc; "error line {k} unknown\n"),
-            Reason::NotBuilt => format!(in alloc; "error line {k} notbuilt\n"),
-        }
-    }
-
-    /// The program's status then.
-    pub fn status(self) -> u8
-        ensures { result ≡ status_of_reason self }
-    {
-        match self {
-            Reason::Utf8 | Reason::Syntax | Reason::Unknown => 3,
-            Reason::NotBuilt => 12,
         }
     }
 }

@@ -155,48 +155,30 @@ fn ample_memory_suffices(rt: HostRuntime) -> Result<(), Fail> {
 }
 
 #[test]
-fn script_ends_at_the_first_line_not_played(rt: HostRuntime) -> Result<(), Fail> {
+fn scripts(rt: HostRuntime) -> Result<(), Fail> {
     for (script, output, code) in [
         ("", "", 0),
-        ("head\n", "head gone\n", 0),
         ("# c\n\nhead", "head gone\n", 0),
-        ("create\n", "create rev 0 Z:1>0$\n", 0),
         ("create a\\tb\n", "create rev 0 Z:1>a+a$a        b\n", 0),
-        (
-            "create ab\nlogin A\ninsert A 1 !\nshow A\nsubmit A\nshow A\n",
-            "create rev 0 Z:1>2+2$ab\nlogin A 1.1 rev 0\ninsert A ok\nshow A rev 0 local \"a!b\\n\"\nsubmit A base 0 Z:3>1=1+1$!\nshow A rev 0 sent \"a!b\\n\"\n",
-            0,
-        ),
         ("show Z", "error line 1 unknown\n", 3),
         ("take A\n", "error line 1 unknown\n", 3),
         ("frob", "error line 1 syntax\n", 3),
-        ("set", "error line 1 notbuilt\n", 12),
-        ("set  x", "error line 1 notbuilt\n", 12),
-        ("login A\n", "error line 1 notbuilt\n", 12),
         (
-            "create ab\nlogin A\nlogin B\n",
-            "create rev 0 Z:1>2+2$ab\nlogin A 1.1 rev 0\nerror line 3 notbuilt\n",
-            12,
+            "create ab\n\nlogin A\ninject A 0 Z:1>0$\nhead\n",
+            "create rev 0 Z:1>2+2$ab\nlogin A 1.1 rev 0\nerror line 4 unknown\n",
+            3,
         ),
+        // a submission that has become nothing, and a crash within its take
         (
-            "create ab\nlogin A\ninsert A 9 x\n",
-            "create rev 0 Z:1>2+2$ab\nlogin A 1.1 rev 0\nerror line 3 notbuilt\n",
-            12,
+            "create ab\nlogin A\nlogin B\ndelete A 0 1\nsubmit A\ndelete B 0 1\nsubmit B\ntake B\ncrash A 2 new\nhead\nresume A\npush A\nhear A\npush A\nhear A\npush A\nhear A\nsubmit A\ntake A\npush A\nhear A\npush A\nhear A\nshow A\nhead\ncrash\nhead\n",
+            "create rev 0 Z:1>2+2$ab\nlogin A 1.1 rev 0\nlogin B 1.2 rev 0\ndelete A ok\nsubmit A base 0 Z:3<1-1$\ndelete B ok\nsubmit B base 0 Z:3<1-1$\ntake B rev 1 Z:3<1-1$\ncrash epoch 2 head 1\nhead 1 \"b\\n\"\nresume A 2.1 head 1\npush A 1\nhear A new 1\npush A none\nhear A none\npush A none\nhear A none\nsubmit A none\ntake A none\npush A none\nhear A none\npush A none\nhear A none\nshow A rev 1 clean \"b\\n\"\nhead 1 \"b\\n\"\ncrash epoch 3 head 1\nhead 1 \"b\\n\"\n",
+            0,
         ),
+        // guests, crashes, losses, resumptions and a changeset that is none
         (
-            "create a😀\nlogin A\ninsert A 2 x\n",
-            "create rev 0 Z:1>3+3$a😀\nlogin A 1.1 rev 0\nerror line 3 notbuilt\n",
-            12,
-        ),
-        (
-            "create ab\nlogin A\ninsert A 0 x\ninsert A 0 y\n",
-            "create rev 0 Z:1>2+2$ab\nlogin A 1.1 rev 0\ninsert A ok\nerror line 4 notbuilt\n",
-            12,
-        ),
-        (
-            "create ab\nlogin A\ninsert A 3 x\nsubmit A\ntake A\n",
-            "create rev 0 Z:1>2+2$ab\nlogin A 1.1 rev 0\ninsert A ok\nsubmit A base 0 Z:3>1|1=3+1$x\nerror line 5 notbuilt\n",
-            12,
+            "create *\nlogin C\nshow C\nformat C 2 0 color green\ndelete C 2 0\ninsert C 0 *\nlose C\ncrash C 2 01\nreader G\npush C\nshow C\nresume C\nsubmit C\ndelete C 2 1\ninsert C 2 c中\ncrash C 0 00\nresume C\nshow C\nsubmit C\ndelete C 2 1\ntake C\ninsert C 2 éy�xb中\ninsert C 0 # é\\n\nattr insertorder last\nattr bold true\nattr color blue\ninject G 1 Z:0000000003>f*2**1|1+1-2+0*1*002+1*2*01+3*2*1*2+1*2+3*00*1|01=1+3*0+4*1|1+1$\\nyc😀baa \\t\\\\c𐐀😀\\n\npush C\nshow C\nhear C\ntake G\nreader G\nformat C 4294967295 0 color blue\nsubmit C\nguest H\nlose C\nhead\nmarks\n",
+            "create rev 0 Z:1>1+1$*\nlogin C 1.1 rev 0\nshow C rev 0 clean \"*\\n\"\nformat C ok\ndelete C ok\ninsert C ok\nlose C ok\ncrash epoch 2 head 0\nreader G 2.1 rev 0\npush C none\nshow C rev 0 local \"**\\n\"\nresume C 2.2 head 0\nsubmit C base 0 Z:2>1+1$*\ndelete C ok\ninsert C ok\ncrash epoch 3 head 0\nresume C 3.1 head 0\nshow C rev 0 both \"**c中\"\nsubmit C base 0 Z:2>1+1$*\ndelete C ok\ntake C rev 1 Z:2>1+1$*\ninsert C ok\ninsert C ok\nattr 0\nattr 1\nattr 2\ninject G ok\npush C 1\nshow C rev 0 both \"# é\\n**éy�xb中中\"\nhear C commit 1\ntake G refused read syntax 17\nreader G 3.2 rev 1\nformat C refused place\nsubmit C base 1 Z:3>a|1+4=2|1-1+7$# é\\néy�xb中中\nguest H 3.3 rev 1\nlose C ok\nhead 1 \"**\\n\"\nmarks 1 |1+3 {\"nextNum\":0,\"numToAttrib\":{}}\n",
+            0,
         ),
     ] {
         let outcome = play_script(rt.alloc(), script.as_bytes())?;
@@ -223,8 +205,17 @@ fn bad_utf8_ends_a_script(rt: HostRuntime) -> Result<(), Fail> {
 }
 
 #[test]
-fn other_words_get_the_usage(rt: HostRuntime) -> Result<(), Fail> {
-    for words in ["", "fly", "play x", "-h"] {
+fn words(rt: HostRuntime) -> Result<(), Fail> {
+    for words in [
+        "",
+        "fly",
+        "-h",
+        "play x y",
+        "play -x",
+        "play a$b",
+        "play r.x",
+        "play g.abcdefghij000000$n",
+    ] {
         let text = Text::new(SCRIPT.as_bytes());
         let outcome = run_words(rt.alloc(), words, text, Page::new(rt.alloc()))?;
         assert_eq!(rt;
@@ -233,6 +224,10 @@ fn other_words_get_the_usage(rt: HostRuntime) -> Result<(), Fail> {
         );
         assert_eq!(rt; outcome.code, 2);
     }
+    let text = Text::new(SCRIPT.as_bytes());
+    let outcome = run_words(rt.alloc(), "play notes", text, Page::new(rt.alloc()))?;
+    assert_eq!(rt; outcome.output.as_str(), OUTPUT);
+    assert_eq!(rt; outcome.code, 0);
     Ok(())
 }
 

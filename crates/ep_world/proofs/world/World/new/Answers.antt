@@ -1,7 +1,14 @@
-use Rattle.std.proofs.Common.{[], refl}
-use Rattle.ep_schedule.specs.World.{start}
-use Rattle.ep_world.specs.Events.{world_limits}
+use Rattle.std.proofs.Common.{◌≡◌, refl, ◌∷◌, ◌++◌, subst, []}
+use Rattle.std.specs.Prelude.{IfOk}
+use Rattle.ep_history.specs.Machine.{MachineState, IsFirst}
+use Rattle.ep_history.specs.Records.{told}
+use Rattle.ep_pad.specs.Standing.{Stands, opening}
+use Rattle.ep_world.specs.declared.world.World.{World}
+use Rattle.ep_world.proofs.Begin.{begins}
 use Rattle.ep_world.proofs.world.World.new.Goals as goal
 
-pub returns-clause-reached : goal.returns-clause-reached
-returns-clause-reached c = (start world_limits [], record { group = refl; absent = refl; nobody = λ q. refl })
+pub returns-in-Ok : goal.returns-in-Ok
+returns-in-Ok g c = λ h.
+    let f = subst (λ r. IfOk r (λ m. (st : MachineState) × IsFirst st × (st.records ≡ [] ++ opening (told c.args.limits []) ∷ []) × Stands g.D.Disk.told g.D.Device.failures m st)) c.in-Ok.is (c.open.ensures.first [] h tt) in
+    let made : World g.row.D.Denot = record { alloc = c.args.alloc; id = c.args.id; machine = c.in-Ok.machine; actors = c.new.result } in
+    (f.0.pad.limits, begins g.D.Disk.told g.D.Device.failures made c.args.limits c.args.id f.0 f.1 f.2 f.3 refl c.new.ensures)

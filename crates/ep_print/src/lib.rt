@@ -1,0 +1,13 @@
+//! Lines of output: what is printed of what is shown.
+//!
+//! The crates above may rest on the definition of a printed line in `specs/`, which `print_shown` meets exactly. What is
+//! shown at which event is not of this crate.
+#![tactic(auto)]
+
+mod marks;
+mod print;
+mod reasons;
+mod texts;
+mod words;
+
+pub use print::print_shown;

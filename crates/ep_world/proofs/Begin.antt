@@ -1,0 +1,29 @@
+-- A world begins on an empty disk.
+use Rattle.std.proofs.Common.{◌≡◌, ℕ, [], ◌∷◌, ◌++◌, Option, ap, ◌∙◌}
+use Rattle.ep_units.specs.Text.{Text}
+use Rattle.ep_outside.specs.Disk.{Contents}
+use Rattle.ep_outside.specs.declared.limits.Limits.{Limits}
+use Rattle.ep_history.specs.Machine.{MachineState, IsFirst}
+use Rattle.ep_history.specs.Records.{told}
+use Rattle.ep_history.proofs.Steps.{first-kept}
+use Rattle.ep_schedule.specs.World.{start}
+use Rattle.ep_schedule.specs.Kepts.{nobodies}
+use Rattle.ep_pad.specs.Standing.{Stands, opening}
+use Rattle.ep_world.specs.declared.world.World.{World}
+use Rattle.ep_world.specs.Actors.{found}
+use Rattle.ep_world.specs.Standing.{StandsFor}
+
+module _ {D : Type 0} (told_by : D → Option Contents) (failures : D → ℕ) where
+  pub begins : (world : World D) (limits : Limits) (id : Text) (st : MachineState) → IsFirst st → st.records ≡ [] ++ opening (told limits []) ∷ []
+      → Stands told_by failures world.machine st → world.id ≡ id → world.actors ≡ [] → StandsFor told_by failures world (start st.pad.limits id) nobodies
+  begins world limits id st first records stands same nobody = record {
+    machine = record {
+      state = st;
+      stands = stands;
+      kept = first-kept st first;
+      is_open = first.is_open;
+      pad = first.told ∙ ap (told st.pad.limits) records;
+    };
+    id = same;
+    actors = λ n. ap (λ s. found s n) nobody;
+  }

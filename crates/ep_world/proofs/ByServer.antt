@@ -1,0 +1,193 @@
+-- Events that the pad alone answers.
+use Rattle.std.proofs.Common.{◌≡◌, ℕ, true, Option, Some, None, Result, Ok, Err, if◌then◌else◌, refl, sym, ap, ◌∙◌, subst}
+use Rattle.ep_units.specs.Text.{Text, is_well_formed}
+use Rattle.ep_cs.specs.Change.{Change}
+use Rattle.ep_outside.specs.Disk.{Contents}
+use Rattle.ep_history.specs.Entries.{Entry, Answer, outcome}
+use Rattle.ep_history.specs.Entries.Answer.{CommitAnswer}
+use Rattle.ep_history.specs.Entries.Entry.{Create, SetText, Delete}
+use Rattle.ep_history.specs.Entries.Outcome.{Refuses}
+use Rattle.ep_history.specs.History.{first_rev}
+use Rattle.ep_history.specs.Pad.{PadState, create, delete}
+use Rattle.ep_history.specs.Readings.{Committed, revised}
+use Rattle.ep_history.specs.Server.{create_fault, gone_fault, set_fault, set_head, set_text}
+use Rattle.ep_history.specs.declared.pad_bad.PadBad.{PadBad}
+use Rattle.ep_history.specs.declared.pad_bad.PadBad.TheVariants as bad
+use Rattle.ep_schedule.specs.World.{Name, WorldState, pad_if, with_pad}
+use Rattle.ep_schedule.specs.Kepts.{Kepts}
+use Rattle.ep_event.specs.declared.event.Event.{Event as Told}
+use Rattle.ep_event.specs.declared.event.Event.TheVariants as told
+use Rattle.ep_event.specs.declared.shown.Shown.{Shown}
+use Rattle.ep_event.specs.declared.shown.Shown.TheVariants as shown
+use Rattle.ep_event.specs.declared.shown.Verb.{Verb}
+use Rattle.ep_event.specs.declared.shown.Verb.TheVariants as verb
+use Rattle.ep_world.specs.declared.bad.WorldBad.{WorldBad}
+use Rattle.ep_world.specs.declared.world.World.{World}
+use Rattle.ep_world.specs.Actors.{found}
+use Rattle.ep_world.specs.Events.{event_at, happened, has_text, is_known, kept_happened}
+use Rattle.ep_world.specs.Failing.{shown_or_failed}
+use Rattle.ep_world.specs.Shows.{pad_refuses, shows, shows_created, shows_deleted, shows_set}
+use Rattle.ep_world.specs.Standing.{Comes, IsAnswered, IsAt, StandsFor, answer_of, no_room, overfull_at, pad_after}
+use Rattle.ep_world.specs.Standing.IsPlayed.{IsEvent, HasNoRoom}
+use Rattle.ep_world.proofs.Brought.{unless-answers, unless-refuses}
+
+-- what a refusal by the pad shows, and that it leaves the world, which then stands like this
+pub record Refusing (w x : WorldState) (ks js : Kepts) (pad : PadState) (now : ℕ) (e : Told) (entry : Entry) (v : Verb) (n : Option Name) : Type 0 where
+  pub known : is_known w e ≡ true
+  pub text : has_text e ≡ true
+  pub shown : (b : PadBad) → outcome pad entry ≡ Refuses b → shows w now true e ≡ pad_refuses v n b
+  pub leaves : (b : PadBad) → outcome pad entry ≡ Refuses b → (happened w (event_at w now true e) ≡ x) × (kept_happened w ks (event_at w now true e) ≡ js)
+  pub room : (k : ℕ) → no_room e (bad.JournalFull k) ≡ Some (pad_refuses v n (bad.JournalFull k))
+  pub full : (happened w (overfull_at e) ≡ x) × (kept_happened w ks (overfull_at e) ≡ js)
+
+module _ {D : Type 0} (told_by : D → Option Contents) (failures : D → ℕ) where
+  -- an event is refused by the pad
+  pub pad-refuses : (old new : World D) (w x : WorldState) (ks js : Kepts) (pad : PadState) (now : ℕ) (e : Told) (entry : Entry) (v : Verb) (n : Option Name) (b : PadBad)
+      → Refusing w x ks js pad now e entry v n → IsAnswered told_by failures old.machine pad entry (Err b) new.machine
+      → (IsAt told_by failures new.machine pad → StandsFor told_by failures new x js) → Comes told_by failures w ks now e new (shown_or_failed v n b)
+  pad-refuses old new w x ks js pad now e entry v n b f a stands = go b a
+    where
+      come : Result Shown WorldBad → Type 0
+      come r = Comes told_by failures w ks now e new r
+
+      plain : (b : PadBad) → (outcome pad entry ≡ Refuses b) × IsAt told_by failures new.machine pad → come (Ok (pad_refuses v n b))
+      plain b h =
+          let l = f.leaves b h.0 in
+          (f.known, f.text,
+          IsEvent true (sym (f.shown b h.0))
+          (subst (λ y. StandsFor told_by failures new y (kept_happened w ks (event_at w now true e))) (sym l.0)
+          (subst (StandsFor told_by failures new x) (sym l.1) (stands h.1))))
+
+      go : (b : PadBad) → IsAnswered told_by failures old.machine pad entry (Err b) new.machine → come (shown_or_failed v n b)
+      go (bad.Store k) a = tt
+      go bad.NoMemory a = tt
+      go (bad.JournalFull k) a =
+          (f.known, f.text,
+          HasNoRoom k (f.room k)
+          (subst (λ y. StandsFor told_by failures new y (kept_happened w ks (overfull_at e))) (sym f.full.0)
+          (subst (StandsFor told_by failures new x) (sym f.full.1) (stands a.0))))
+      go (bad.Dead why) a = plain (bad.Dead why) a
+      go (bad.Denied k) a = plain (bad.Denied k) a
+      go (bad.Full k) a = plain (bad.Full k) a
+      go bad.Gone a = plain bad.Gone a
+      go (bad.BadRev k) a = plain (bad.BadRev k) a
+      go (bad.NoRev k) a = plain (bad.NoRev k) a
+      go bad.Exists a = plain bad.Exists a
+      go bad.ReadOnly a = plain bad.ReadOnly a
+      go (bad.NoBase k) a = plain (bad.NoBase k) a
+      go (bad.Author k) a = plain (bad.Author k) a
+      go (bad.Fit why) a = plain (bad.Fit why) a
+      go (bad.TooLong k) a = plain (bad.TooLong k) a
+      go bad.Foreign a = plain bad.Foreign a
+      go (bad.BadRecord k) a = plain (bad.BadRecord k) a
+
+  -- the same actors over another pad
+  pub with-pad : (old new : World D) (w : WorldState) (ks : Kepts) (pad : PadState) → StandsFor told_by failures old w ks → IsAt told_by failures new.machine pad
+      → new.id ≡ old.id → new.actors ≡ old.actors → StandsFor told_by failures new (with_pad w pad) ks
+  with-pad old new w ks pad s m i a = record { machine = m; id = i ∙ s.id; actors = λ q. ap (λ x. found x q) a ∙ s.actors q }
+
+  -- ---- a birth
+
+  create-refusing : (w : WorldState) (ks : Kepts) (now : ℕ) (text : Text) → is_well_formed text ≡ true
+      → Refusing w w ks ks w.pad now (told.Create text) (Create text now) verb.Create None
+  create-refusing w ks now text t = record {
+    known = refl;
+    text = t;
+    shown = λ b h. ap (shows_created (first_rev now text)) (fault b h);
+    leaves = λ b h. (ap (λ u. if u then pad_if w (create w.pad now text) (create_fault w.pad text) else w) t ∙ ap (pad_if w (create w.pad now text)) (fault b h), refl);
+    room = λ k. refl;
+    full = (refl, refl);
+  }
+    where
+      fault : (b : PadBad) → outcome w.pad (Create text now) ≡ Refuses b → create_fault w.pad text ≡ Some b
+      fault b h = unless-refuses (create_fault w.pad text) _ _ _ b h
+
+  pub create-refused : (old new : World D) (w : WorldState) (ks : Kepts) (now : ℕ) (text : Text) (b : PadBad) → is_well_formed text ≡ true → StandsFor told_by failures old w ks
+      → IsAnswered told_by failures old.machine w.pad (Create text now) (Err b) new.machine → new.id ≡ old.id → new.actors ≡ old.actors
+      → Comes told_by failures w ks now (told.Create text) new (shown_or_failed verb.Create None b)
+  create-refused old new w ks now text b t s a i e =
+      pad-refuses old new w w ks ks w.pad now (told.Create text) (Create text now) verb.Create None b (create-refusing w ks now text t) a
+      (λ m. with-pad old new w ks w.pad s m i e)
+
+  pub created : (old new : World D) (w : WorldState) (ks : Kepts) (now : ℕ) (text : Text) (a : Answer) (c : Change) → c ≡ (first_rev now text).change → is_well_formed text ≡ true → StandsFor told_by failures old w ks
+      → IsAnswered told_by failures old.machine w.pad (Create text now) (Ok a) new.machine → new.id ≡ old.id → new.actors ≡ old.actors
+      → Comes told_by failures w ks now (told.Create text) new (Ok (shown.Created c))
+  created old new w ks now text a c q t s x i e =
+      let u = unless-answers (create_fault w.pad text) _ a x.0 in
+      let m = subst (λ o. IsAt told_by failures new.machine (pad_after w.pad o)) u.1 x.1 in
+      (refl, t,
+      IsEvent true (ap (λ y. shown.Created y) q ∙ ap (shows_created (first_rev now text)) (sym u.0))
+      (subst (λ y. StandsFor told_by failures new y ks)
+      (sym (ap (λ v. if v then pad_if w (create w.pad now text) (create_fault w.pad text) else w) t ∙ ap (pad_if w (create w.pad now text)) u.0))
+      (with-pad old new w ks (create w.pad now text) s m i e)))
+
+  -- ---- a text that is set
+
+  set-refusing : (w : WorldState) (ks : Kepts) (now : ℕ) (text : Text) → is_well_formed text ≡ true
+      → Refusing w w ks ks w.pad now (told.SetText text) (SetText text now) verb.Set None
+  set-refusing w ks now text t = record {
+    known = refl;
+    text = t;
+    shown = λ b h. ap (shows_set (revised w.pad (set_head w.pad text))) (fault b h);
+    leaves = λ b h. (ap (λ u. if u then pad_if w (set_text w.pad now text) (set_fault w.pad text) else w) t ∙ ap (pad_if w (set_text w.pad now text)) (fault b h), refl);
+    room = λ k. refl;
+    full = (refl, refl);
+  }
+    where
+      fault : (b : PadBad) → outcome w.pad (SetText text now) ≡ Refuses b → set_fault w.pad text ≡ Some b
+      fault b h = unless-refuses (set_fault w.pad text) _ _ _ b h
+
+  pub set-refused : (old new : World D) (w : WorldState) (ks : Kepts) (now : ℕ) (text : Text) (b : PadBad) → is_well_formed text ≡ true → StandsFor told_by failures old w ks
+      → IsAnswered told_by failures old.machine w.pad (SetText text now) (Err b) new.machine → new.id ≡ old.id → new.actors ≡ old.actors
+      → Comes told_by failures w ks now (told.SetText text) new (shown_or_failed verb.Set None b)
+  set-refused old new w ks now text b t s a i e =
+      pad-refuses old new w w ks ks w.pad now (told.SetText text) (SetText text now) verb.Set None b (set-refusing w ks now text t) a
+      (λ m. with-pad old new w ks w.pad s m i e)
+
+  pub text-set : (old new : World D) (w : WorldState) (ks : Kepts) (now : ℕ) (text : Text) (c : Committed) → is_well_formed text ≡ true → StandsFor told_by failures old w ks
+      → IsAnswered told_by failures old.machine w.pad (SetText text now) (Ok (CommitAnswer c)) new.machine → new.id ≡ old.id → new.actors ≡ old.actors
+      → Comes told_by failures w ks now (told.SetText text) new (Ok (shows_set c None))
+  text-set old new w ks now text c t s x i e =
+      let u = unless-answers (set_fault w.pad text) _ (CommitAnswer c) x.0 in
+      let m = subst (λ o. IsAt told_by failures new.machine (pad_after w.pad o)) u.1 x.1 in
+      let q : revised w.pad (set_head w.pad text) ≡ c = same (sym (ap answer_of u.1) ∙ x.0) in
+      (refl, t,
+      IsEvent true (ap (λ d. shows_set d None) (sym q) ∙ ap (shows_set (revised w.pad (set_head w.pad text))) (sym u.0))
+      (subst (λ y. StandsFor told_by failures new y ks)
+      (sym (ap (λ v. if v then pad_if w (set_text w.pad now text) (set_fault w.pad text) else w) t ∙ ap (pad_if w (set_text w.pad now text)) u.0))
+      (with-pad old new w ks (set_text w.pad now text) s m i e)))
+    where
+      same : Some (CommitAnswer (revised w.pad (set_head w.pad text))) ≡ Some (CommitAnswer c) → revised w.pad (set_head w.pad text) ≡ c
+      same h = cc
+
+  -- ---- a deletion
+
+  delete-refusing : (w : WorldState) (ks : Kepts) (now : ℕ) → Refusing w w ks ks w.pad now told.Delete (Delete now) verb.Drop None
+  delete-refusing w ks now = record {
+    known = refl;
+    text = refl;
+    shown = λ b h. ap shows_deleted (fault b h);
+    leaves = λ b h. (ap (pad_if w (delete w.pad)) (fault b h), refl);
+    room = λ k. refl;
+    full = (refl, refl);
+  }
+    where
+      fault : (b : PadBad) → outcome w.pad (Delete now) ≡ Refuses b → gone_fault w.pad ≡ Some b
+      fault b h = unless-refuses (gone_fault w.pad) _ _ _ b h
+
+  pub delete-refused : (old new : World D) (w : WorldState) (ks : Kepts) (now : ℕ) (b : PadBad) → StandsFor told_by failures old w ks
+      → IsAnswered told_by failures old.machine w.pad (Delete now) (Err b) new.machine → new.id ≡ old.id → new.actors ≡ old.actors
+      → Comes told_by failures w ks now told.Delete new (shown_or_failed verb.Drop None b)
+  delete-refused old new w ks now b s a i e =
+      pad-refuses old new w w ks ks w.pad now told.Delete (Delete now) verb.Drop None b (delete-refusing w ks now) a
+      (λ m. with-pad old new w ks w.pad s m i e)
+
+  pub deleted : (old new : World D) (w : WorldState) (ks : Kepts) (now : ℕ) (a : Answer) → StandsFor told_by failures old w ks
+      → IsAnswered told_by failures old.machine w.pad (Delete now) (Ok a) new.machine → new.id ≡ old.id → new.actors ≡ old.actors
+      → Comes told_by failures w ks now told.Delete new (Ok (shows_deleted None))
+  deleted old new w ks now a s x i e =
+      let u = unless-answers (gone_fault w.pad) _ a x.0 in
+      let m = subst (λ o. IsAt told_by failures new.machine (pad_after w.pad o)) u.1 x.1 in
+      (refl, refl,
+      IsEvent true (ap shows_deleted (sym u.0))
+      (subst (λ y. StandsFor told_by failures new y ks) (sym (ap (pad_if w (delete w.pad)) u.0)) (with-pad old new w ks (delete w.pad) s m i e)))

@@ -1,0 +1,36 @@
+use Rattle.std.proofs.Common.{◌≡◌, ◌∷◌, [], ℕ, List, length, refl, sym, subst, ◌∙◌, append_assoc, append-nil, arith}
+use Rattle.std.specs.Vec.Iter.{into_iter_items}
+use Rattle.ep_event.specs.declared.event.Event.{Event}
+use Rattle.ep_schedule.specs.World.{start}
+use Rattle.ep_schedule.specs.Kepts.{nobodies}
+use Rattle.ep_world.specs.Leading.{Lead}
+use Rattle.ep_world.proofs.Leading.{begins, scheduled}
+use Rattle.ep_world.proofs.schedule.schedule_law.Goals as goal
+
+nothing-left : {X : Type 0} (l : List X) → length l ≡ 0 → l ≡ []
+nothing-left [] h = refl
+nothing-left (x ∷ xs) h = absurd (omega arith)
+
+pub loop-now-init : goal.loop-now-init
+loop-now-init g c = (
+  refl,
+  λ h. let f = c.in_ok-world.ensures h in (f.0, record { world = start f.0 c.args.id; kepts = nobodies; leads = (refl, refl); run = begins f.0 c.args.id; stands = f.1 }),
+)
+
+pub loop-now-preserved : goal.loop-now-preserved
+loop-now-preserved g c =
+    let at = c.loop-now in
+    let x : ℕ × Event = (c.in-Some.now, c.in-Some.event) in
+    let steps : into_iter_items at.now-iterator ≡ x ∷ into_iter_items c.next.new.self = c.in-Some.ensures.steps.0 in (
+      append_assoc at.yielded (x ∷ []) _ ∙ rw (← steps) at.invariant.0,
+      λ h. let s = at.invariant.1 h in (s.0, c.in_ok-play.ensures (start s.0 c.args.id) at.yielded s.1),
+    )
+
+pub returns : goal.returns
+returns g c = λ h.
+    let at = c.loop-now in
+    let none = c.in-None.ensures.steps in
+    let empty : into_iter_items at.now-iterator ≡ [] = nothing-left _ (sym at.now-iterator.rest.ok.0 ∙ none.0) in
+    let all : at.yielded ≡ c.args.events.items = sym (append-nil at.yielded) ∙ rw empty at at.invariant.0 ∙ c.into_iter-now-iterator.ensures.into_iter_gives.0 in
+    let s = at.invariant.1 h in
+    (s.0, (s.1.world, (s.1.kepts, (subst (λ es. Lead (start s.0 c.args.id) nobodies es s.1.world s.1.kepts) all s.1.leads, s.1.stands, scheduled s.1.world s.1.kepts s.1.run))))

@@ -1,0 +1,18 @@
+use Rattle.std.proofs.Common.{◌≡◌, Err}
+use Rattle.ep_history.specs.declared.pad_bad.PadBad.TheVariants as bad
+use Rattle.ep_world.specs.Conns.{held_conn}
+use Rattle.ep_world.proofs.Pushes.{tells-dead, tells-fetched}
+use Rattle.ep_world.proofs.telling.tell.Goals as goal
+
+pub returns-in_ok-tell_next-in-Ok-clause-told : goal.returns-in_ok-tell_next-in-Ok-clause-told
+returns-in_ok-tell_next-in-Ok-clause-told g c = λ pad a.
+    let p = c.in_ok-tell_next-in-Ok in
+    tells-fetched g.D.Disk.told g.D.Device.failures c.args.machine.now c.fetch.new.self pad c.args.conn.now (held_conn c.conn.inside) c.tell_next.new.conn c.fetch.result c.in-Ok.fetched p.field-0
+    c.conn.view_is a (λ st k x. let y = c.fetch.ensures st k x in (y.0, y.1, y.2)) c.in-Ok.is p.ensures.pushed p.ensures.told
+
+pub returns-in_ok-tell_end-in-Err-Dead-clause-told : goal.returns-in_ok-tell_end-in-Err-Dead-clause-told
+returns-in_ok-tell_end-in-Err-Dead-clause-told g c = λ pad a.
+    let p = c.in_ok-tell_end-in-Err-Dead in
+    let dead : c.fetch.result ≡ Err (bad.Dead c.in-Err-Dead.why) = cc (c.in-Err-Dead.is, c.in-Err-Dead.field-0-is, c.in-Err-Dead.why-is) in
+    tells-dead g.D.Disk.told g.D.Device.failures c.args.machine.now c.fetch.new.self pad c.args.conn.now (held_conn c.conn.inside) c.tell_end.new.conn c.fetch.result c.in-Err-Dead.why p.field-0
+    c.conn.view_is a (λ st k x. let y = c.fetch.ensures st k x in (y.0, y.1, y.2)) dead p.ensures.pushed p.ensures.told

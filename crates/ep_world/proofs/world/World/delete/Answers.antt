@@ -1,0 +1,21 @@
+use Rattle.std.proofs.Common.{refl, subst}
+use Rattle.ep_history.specs.Entries.Answer.{Done}
+use Rattle.ep_history.specs.Entries.Entry.{Delete}
+use Rattle.ep_pad.specs.Standing.{replied}
+use Rattle.ep_world.specs.Standing.{IsAnswered}
+use Rattle.ep_world.proofs.ByServer.{delete-refused, deleted}
+use Rattle.ep_world.proofs.Calls.{answered}
+use Rattle.ep_world.proofs.world.World.delete.Goals as goal
+
+pub returns-in-Ok : goal.returns-in-Ok
+returns-in-Ok g c = λ w ks run s.
+    let a = answered g.D.Disk.told g.D.Device.failures c.args.self.now.machine c.delete.new.self w.pad (Delete c.args.now) (replied (λ _. Done) c.delete.result) s.machine (λ st k x. let y = c.delete.ensures st k x in (y.0, y.1, y.2)) in
+    deleted g.D.Disk.told g.D.Device.failures c.args.self.now _ w ks c.args.now Done s
+    (subst (λ r. IsAnswered g.D.Disk.told g.D.Device.failures c.args.self.now.machine w.pad (Delete c.args.now) (replied (λ _. Done) r) c.delete.new.self) c.in-Ok.is a) refl refl
+
+pub returns-in-Err : goal.returns-in-Err
+returns-in-Err g c = λ w ks run s.
+    let a = answered g.D.Disk.told g.D.Device.failures c.args.self.now.machine c.delete.new.self w.pad (Delete c.args.now) (replied (λ _. Done) c.delete.result) s.machine (λ st k x. let y = c.delete.ensures st k x in (y.0, y.1, y.2)) in
+    rw c.refused.ensures
+    (delete-refused g.D.Disk.told g.D.Device.failures c.args.self.now _ w ks c.args.now c.in-Err.bad s
+    (subst (λ r. IsAnswered g.D.Disk.told g.D.Device.failures c.args.self.now.machine w.pad (Delete c.args.now) (replied (λ _. Done) r) c.delete.new.self) c.in-Err.is a) refl refl)

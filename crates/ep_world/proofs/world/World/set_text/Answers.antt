@@ -1,0 +1,24 @@
+use Rattle.std.proofs.Common.{refl, sym, ◌∙◌, subst}
+use Rattle.ep_history.specs.Entries.Answer.{CommitAnswer}
+use Rattle.ep_history.specs.Entries.Entry.{SetText}
+use Rattle.ep_step.specs.Telling.{told_by}
+use Rattle.ep_pad.specs.Standing.{replied}
+use Rattle.ep_world.specs.Standing.{IsAnswered}
+use Rattle.ep_world.proofs.ByServer.{set-refused, text-set}
+use Rattle.ep_world.proofs.Calls.{answered}
+use Rattle.ep_world.proofs.world.World.set_text.Goals as goal
+
+pub returns-in-Ok : goal.returns-in-Ok
+returns-in-Ok g c = λ w ks run s.
+    let t = sym c.well_formed-2.ensures ∙ c.if-not-well_formed.false in
+    let a = answered g.D.Disk.told g.D.Device.failures c.args.self.now.machine c.set_text.new.self w.pad (SetText c.args.text.now c.args.now) (replied (λ x. CommitAnswer (told_by x)) c.set_text.result) s.machine (λ st k x. let y = c.set_text.ensures st k x in (y.0, y.1, y.2)) in
+    text-set g.D.Disk.told g.D.Device.failures c.args.self.now _ w ks c.args.now c.args.text.now _ t s
+    (subst (λ r. IsAnswered g.D.Disk.told g.D.Device.failures c.args.self.now.machine w.pad (SetText c.args.text.now c.args.now) (replied (λ x. CommitAnswer (told_by x)) r) c.set_text.new.self) c.in-Ok.is a) refl refl
+
+pub returns-in-Err : goal.returns-in-Err
+returns-in-Err g c = λ w ks run s.
+    let t = sym c.well_formed-2.ensures ∙ c.if-not-well_formed.false in
+    let a = answered g.D.Disk.told g.D.Device.failures c.args.self.now.machine c.set_text.new.self w.pad (SetText c.args.text.now c.args.now) (replied (λ x. CommitAnswer (told_by x)) c.set_text.result) s.machine (λ st k x. let y = c.set_text.ensures st k x in (y.0, y.1, y.2)) in
+    rw c.refused.ensures
+    (set-refused g.D.Disk.told g.D.Device.failures c.args.self.now _ w ks c.args.now c.args.text.now c.in-Err.bad t s
+    (subst (λ r. IsAnswered g.D.Disk.told g.D.Device.failures c.args.self.now.machine w.pad (SetText c.args.text.now c.args.now) (replied (λ x. CommitAnswer (told_by x)) r) c.set_text.new.self) c.in-Err.is a) refl refl)

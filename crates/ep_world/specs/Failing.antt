@@ -1,0 +1,31 @@
+-- What ends a world.
+use Rattle.std.specs.Prelude.{Option, Result, Ok, Err}
+use Rattle.ep_history.specs.declared.pad_bad.PadBad.{PadBad}
+use Rattle.ep_history.specs.declared.pad_bad.PadBad.TheVariants as bad
+use Rattle.ep_schedule.specs.World.{Name}
+use Rattle.ep_event.specs.declared.shown.Reason.TheVariants as why
+use Rattle.ep_event.specs.declared.shown.Shown.{Shown}
+use Rattle.ep_event.specs.declared.shown.Shown.TheVariants as shown
+use Rattle.ep_event.specs.declared.shown.Verb.{Verb}
+use Rattle.ep_world.specs.declared.bad.WorldBad.{WorldBad}
+use Rattle.ep_world.specs.declared.bad.WorldBad.TheVariants as world_bad
+
+-- the store failed, the journal has no room for an opening, or memory is wanting
+abbrev pub failed : PadBad → WorldBad
+failed (bad.Store n) = world_bad.Store n
+failed (bad.JournalFull n) = world_bad.Full n
+failed b = world_bad.NoMemory
+
+-- a refusal is shown, unless it ends the world
+abbrev pub shown_or_failed : Verb → Option Name → PadBad → Result Shown WorldBad
+shown_or_failed v n (bad.Store c) = Err (world_bad.Store c)
+shown_or_failed v n bad.NoMemory = Err world_bad.NoMemory
+shown_or_failed v n b = Ok (shown.Refused v n (why.Pad b))
+
+-- after it nothing is said of the world
+abbrev pub IsFailure : WorldBad → Type 0
+IsFailure world_bad.Unknown = ⊥
+IsFailure world_bad.NoText = ⊥
+IsFailure (world_bad.Full n) = Unit {0}
+IsFailure (world_bad.Store n) = Unit {0}
+IsFailure world_bad.NoMemory = Unit {0}

@@ -1,0 +1,40 @@
+-- What reading a world comes to.
+use Rattle.std.specs.Prelude.{◌≡◌, ℕ, if◌then◌else◌, Option, Some, None, Result, Ok, Err, MatchResult}
+use Rattle.ep_outside.specs.Disk.{Contents}
+use Rattle.ep_cs.specs.Doc.{Doc}
+use Rattle.ep_history.specs.History.{head, head_doc}
+use Rattle.ep_history.specs.Kept.{KeptClient}
+use Rattle.ep_history.specs.Pad.{PadState, newest}
+use Rattle.ep_schedule.specs.Kepts.{Kepts}
+use Rattle.ep_schedule.specs.World.{Name, WorldState}
+use Rattle.ep_pad.specs.Held.{Held}
+use Rattle.ep_event.specs.declared.shown.Shown.{Shown}
+use Rattle.ep_world.specs.declared.bad.WorldBad.{WorldBad}
+use Rattle.ep_world.specs.declared.bad.WorldBad.TheVariants as world_bad
+use Rattle.ep_world.specs.declared.world.World.{World}
+use Rattle.ep_world.specs.Events.{of_client}
+use Rattle.ep_world.specs.Failing.{IsFailure}
+use Rattle.ep_world.specs.Standing.{IsAt, StandsFor}
+
+-- the client of this name as it is kept, where there is one
+abbrev pub client_kept : WorldState → Kepts → Name → Option KeptClient
+client_kept w ks n = of_client None (λ m. Some (ks n)) (w.actors n)
+
+-- just this is shown of a client, or memory is wanting; where there is no client, that nobody has the name
+abbrev pub ShowsClient : Option Shown → Result Shown WorldBad → Type 0
+ShowsClient None r = r ≡ Err world_bad.Unknown
+ShowsClient (Some s) (Ok x) = x ≡ s
+ShowsClient (Some s) (Err b) = IsFailure b
+
+-- the head with its document, where the pad is there
+abbrev pub head_there : PadState → Option (ℕ × Doc)
+head_there pad = if pad.present then Some (head (newest pad), head_doc (newest pad)) else None
+
+module _ {D : Type 0} (told_by : D → Option Contents) (failures : D → ℕ) where
+  -- the head is told, and the machine is where it was
+  abbrev pub TellsHead : PadState → Result (Option (ℕ × Doc)) WorldBad → Held D → Type 0
+  TellsHead pad r new = MatchResult r (λ x. (x ≡ head_there pad) × IsAt told_by failures new pad) IsFailure
+
+  -- just this is shown of the pad, and the world stands as before; or it ends
+  abbrev pub ShowsPad : WorldState → Kepts → Shown → Result Shown WorldBad → World D → Type 0
+  ShowsPad w ks s r new = MatchResult r (λ x. (x ≡ s) × StandsFor told_by failures new w ks) IsFailure

@@ -1,0 +1,128 @@
+-- For which worlds of the rules a world in code stands, and what its calls come to there.
+use Rattle.std.specs.Prelude.{◌≡◌, ◌⊎◌, ℕ, Bool, true, false, List, Option, Some, None, Result, Ok, Err}
+use Rattle.ep_units.specs.Text.{Text, text_eq}
+use Rattle.ep_outside.specs.Disk.{Contents}
+use Rattle.ep_outside.specs.declared.limits.Limits.{Limits}
+use Rattle.ep_history.specs.Entries.{Entry, Answer, Outcome, Reply, outcome}
+use Rattle.ep_history.specs.Entries.Outcome.{Refuses, Answers, Records}
+use Rattle.ep_history.specs.Machine.{MachineState, IsKeptState}
+use Rattle.ep_history.specs.Pad.{PadState}
+use Rattle.ep_history.specs.declared.pad_bad.PadBad.{PadBad}
+use Rattle.ep_history.specs.declared.pad_bad.PadBad.TheVariants as bad
+use Rattle.ep_history.specs.declared.record.Record.{Record}
+use Rattle.ep_schedule.specs.World.{Name, WorldState, Event, start, run}
+use Rattle.ep_schedule.specs.World.Event.{Lose, Overfull}
+use Rattle.ep_schedule.specs.Kepts.{Kepts, nobodies, run_kept}
+use Rattle.ep_pad.specs.Held.{Held}
+use Rattle.ep_pad.specs.Standing.{Stands}
+use Rattle.ep_event.specs.declared.event.Event.{Event as Told}
+use Rattle.ep_event.specs.declared.event.Event.TheVariants as told
+use Rattle.ep_event.specs.declared.shown.Shown.{Shown}
+use Rattle.ep_event.specs.declared.shown.Verb.TheVariants as verb
+use Rattle.ep_world.specs.declared.bad.WorldBad.{WorldBad}
+use Rattle.ep_world.specs.declared.bad.WorldBad.TheVariants as world_bad
+use Rattle.ep_world.specs.Actors.{AreActors, actor_of, found}
+use Rattle.ep_world.specs.Events.{event_at, happened, kept_happened, is_known, has_text}
+use Rattle.ep_world.specs.declared.world.World.{World}
+use Rattle.ep_world.specs.Shows.{pad_refuses, shows, visit_verb}
+
+-- ---- runs
+
+-- a world, and its clients as they are kept, to which some events lead
+pub record IsRun (w : WorldState) (ks : Kepts) : Type 0 where
+  pub limits : Limits
+  pub id : Text
+  pub events : List Event
+  pub world : w ≡ run events (start limits id)
+  pub kepts : ks ≡ run_kept events (start limits id) nobodies
+
+-- ---- a pad's machine
+
+-- the pad after what an entry comes to
+abbrev pub pad_after : PadState → Outcome → PadState
+pad_after pad (Refuses b) = pad
+pad_after pad (Answers a next) = next
+pad_after pad (Records r a next) = next
+
+-- the answer
+abbrev pub answer_of : Outcome → Option Answer
+answer_of (Refuses b) = None
+answer_of (Answers a next) = Some a
+answer_of (Records r a next) = Some a
+
+-- ---- a journal without room
+
+-- what the journal's limit refuses, and what is shown of it
+abbrev pub no_room : Told → PadBad → Option Shown
+no_room (told.Create text) b = Some (pad_refuses verb.Create None b)
+no_room (told.SetText text) b = Some (pad_refuses verb.Set None b)
+no_room told.Delete b = Some (pad_refuses verb.Drop None b)
+no_room (told.Login n) b = Some (pad_refuses verb.Login (Some n) b)
+no_room (told.Guest n read_only) b = Some (pad_refuses (visit_verb read_only) (Some n) b)
+no_room (told.Resume n) b = Some (pad_refuses verb.Resume (Some n) b)
+no_room (told.Take n) b = Some (pad_refuses verb.Take (Some n) b)
+no_room e b = None
+
+-- it changes nothing, but that a take ends its session, and that who would have come back is lost
+abbrev pub overfull_at : Told → Option Event
+overfull_at (told.Take n) = Some (Overfull n)
+overfull_at (told.Resume n) = Some (Lose n)
+overfull_at e = None
+
+
+module _ {D : Type 0} (told_by : D → Option Contents) (failures : D → ℕ) where
+  -- an open machine in a state of this pad, which its records tell
+  pub record IsAt (m : Held D) (p : PadState) : Type 0 where
+    pub state : MachineState
+    pub stands : Stands told_by failures m state
+    pub kept : IsKeptState state
+    pub is_open : state.is_open ≡ true
+    pub pad : state.pad ≡ p
+
+  -- an entry is answered as the rules say, or refused for its reason; or the journal has no room for its record; or the
+  -- machine is good for nothing more
+  abbrev pub IsAnswered : Held D → PadState → Entry → Reply → Held D → Type 0
+  IsAnswered old pad e (Ok a) new = (answer_of (outcome pad e) ≡ Some a) × IsAt new (pad_after pad (outcome pad e))
+  IsAnswered old pad e (Err bad.NoMemory) new = Unit {0}
+  IsAnswered old pad e (Err (bad.Store n)) new = Unit {0}
+  IsAnswered old pad e (Err (bad.JournalFull n)) new =
+      IsAt new pad × ((outcome pad e ≡ Refuses (bad.JournalFull n))
+      ⊎ ((r : Record) × (a : Answer) × (next : PadState) × (outcome pad e ≡ Records r a next)))
+  IsAnswered old pad e (Err b) new = (outcome pad e ≡ Refuses b) × IsAt new pad
+
+  -- ---- the world
+
+  -- the world in code stands for this one, whose clients are kept like that
+  pub record StandsFor (world : World D) (w : WorldState) (ks : Kepts) : Type 0 where
+    pub machine : IsAt world.machine w.pad
+    pub id : world.id ≡ w.id
+    pub actors : AreActors world.actors w ks
+
+  -- so does this one but for a name, whom somebody else holds
+  pub record StandsBut (world : World D) (n : Name) (w : WorldState) (ks : Kepts) : Type 0 where
+    pub machine : IsAt world.machine w.pad
+    pub id : world.id ≡ w.id
+    pub actors : (q : Name) → text_eq q n ≡ false → found world.actors q ≡ actor_of (w.actors q) (ks q)
+
+  -- ---- events
+
+  -- an event was played: it is shown, and then the world in code stands for the one after it; or for the one in which the
+  -- journal had no room
+  pub data IsPlayed (w : WorldState) (ks : Kepts) (now : ℕ) (e : Told) (new : World D) (shown : Shown) : Type 0 where
+    IsEvent : (kept : Bool) → shown ≡ shows w now kept e → StandsFor new (happened w (event_at w now kept e)) (kept_happened w ks (event_at w now kept e))
+        → IsPlayed w ks now e new shown
+    HasNoRoom : (bytes : ℕ) → no_room e (bad.JournalFull bytes) ≡ Some shown
+        → StandsFor new (happened w (overfull_at e)) (kept_happened w ks (overfull_at e)) → IsPlayed w ks now e new shown
+
+  -- what an event comes to. Where nobody of the kind has the name, or where what it brings is no text, nothing happens.
+  abbrev pub Comes : WorldState → Kepts → ℕ → Told → World D → Result Shown WorldBad → Type 0
+  Comes w ks now e new (Ok shown) = (is_known w e ≡ true) × (has_text e ≡ true) × IsPlayed w ks now e new shown
+  Comes w ks now e new (Err world_bad.Unknown) = (is_known w e ≡ false) × StandsFor new w ks
+  Comes w ks now e new (Err world_bad.NoText) = (has_text e ≡ false) × StandsFor new w ks
+  Comes w ks now e new (Err (world_bad.Full n)) = Unit {0}
+  Comes w ks now e new (Err (world_bad.Store n)) = Unit {0}
+  Comes w ks now e new (Err world_bad.NoMemory) = Unit {0}
+
+  -- of each world for which it stood
+  abbrev pub Plays : World D → ℕ → Told → Result Shown WorldBad → World D → Type 0
+  Plays old now e result new = (w : WorldState) (ks : Kepts) → IsRun w ks → StandsFor old w ks → Comes w ks now e new result

@@ -1,0 +1,73 @@
+-- What a crash comes to.
+use Rattle.std.specs.Prelude.{◌≡◌, ℕ, Bool, true, false, List, Option, Some, None, Result, Ok, Err}
+use Rattle.ep_units.specs.declared.session.Session.{Session}
+use Rattle.ep_outside.specs.Disk.{Contents}
+use Rattle.ep_history.specs.Accept.{committed}
+use Rattle.ep_history.specs.Machine.{MachineState, IsKeptState, settled}
+use Rattle.ep_history.specs.Pad.{PadState, reopened}
+use Rattle.ep_schedule.specs.World.{Name, Message, Reason as AReason, reason}
+use Rattle.ep_pad.specs.Held.{Held}
+use Rattle.ep_pad.specs.Standing.{Stands}
+use Rattle.ep_world.specs.declared.actors.Actor.{Actor}
+use Rattle.ep_world.specs.declared.actors.Actor.TheVariants as actor
+use Rattle.ep_world.specs.declared.actors.Slot.{Slot}
+use Rattle.ep_world.specs.declared.bad.WorldBad.{WorldBad}
+use Rattle.ep_world.specs.declared.bad.WorldBad.TheVariants as world_bad
+use Rattle.ep_world.specs.declared.message.Sent.{Sent}
+use Rattle.ep_world.specs.Actors.{IsSame, PutsActor, found}
+use Rattle.ep_world.specs.Conns.{KeptConn, TakesUp, sent_of}
+use Rattle.ep_world.specs.Failing.{IsFailure}
+use Rattle.ep_world.specs.Standing.{IsAt}
+
+-- ---- the first message
+
+-- of a connection, with its session
+abbrev pub TakesSent : KeptConn → Option (Session × Sent) → KeptConn → Type 0
+TakesSent old None new = TakesUp old None new
+TakesSent old (Some x) new = (x.0 ≡ old.session) × TakesUp old (Some x.1) new
+
+-- of somebody
+abbrev pub TakesFirst : Actor → Option (Session × Sent) → Actor → Type 0
+TakesFirst (actor.Guest c) x (actor.Guest d) = TakesSent c x d
+TakesFirst (actor.Named m) x (actor.Named n) = (d : KeptConn) × TakesSent m.conn x d × (n ≡ record m { conn = d })
+TakesFirst (actor.Guest c) x (actor.Named n) = ⊥
+TakesFirst (actor.Named m) x (actor.Guest d) = ⊥
+
+-- of whom a name stands for
+abbrev pub FindsFirst : List Slot → Name → Result (Option (Session × Sent)) WorldBad → List Slot → Type 0
+FindsFirst old n (Ok x) new =
+    (a : Actor) × (b : Actor) × (found old n ≡ Some a) × TakesFirst a x b
+    × PutsActor old n b new
+FindsFirst old n (Err world_bad.Unknown) new = (found old n ≡ None) × IsSame old new
+FindsFirst old n (Err b) new = IsFailure b
+
+-- ---- the pad
+
+-- a pad after the take of a message that was broken off, whose record was kept or not
+abbrev pub taken_if : PadState → Session → ℕ → Message → Option AReason → PadState
+taken_if pad s now msg None = committed pad s now msg.base msg.change
+taken_if pad s now msg (Some why) = pad
+
+abbrev pub broken_off : PadState → Session → ℕ → Message → Bool → PadState
+broken_off pad s now msg false = pad
+broken_off pad s now msg true = taken_if pad s now msg (reason pad s msg)
+
+-- the same of a take that has a message, or none
+abbrev pub broken_by : PadState → ℕ → Option (Session × Message) → Bool → PadState
+broken_by pad now None kept = pad
+broken_by pad now (Some x) kept = broken_off pad x.0 now x.1 kept
+
+-- the message of the rules as code has it, with its session
+abbrev pub taken_of : Session × Message → Session × Sent
+taken_of x = (x.0, sent_of x.1)
+
+module _ {D : Type 0} (told_by : D → Option Contents) (failures : D → ℕ) where
+  -- a machine that was started again is open; what a record that was pending came to, the disk decided
+  abbrev pub Reopens : MachineState → Held D → Type 0
+  Reopens st new = (kept : Bool) × IsAt told_by failures new (reopened (settled kept st).pad)
+
+  -- a take that was broken off, where there was a message, is settled as one whose record was kept, or as none
+  abbrev pub BreaksOff : PadState → ℕ → Option (Session × Message) → Held D → Type 0
+  BreaksOff pad now first new =
+      (st : MachineState) × Stands told_by failures new st × IsKeptState st
+      × ((kept : Bool) → (b : Bool) × ((settled kept st).pad ≡ broken_by pad now first b))

@@ -1,0 +1,74 @@
+-- What taking a message comes to.
+use Rattle.std.specs.Prelude.{◌≡◌, ℕ, Option, Some, None, Result, Ok, Err}
+use Rattle.ep_units.specs.declared.session.Session.{Session}
+use Rattle.ep_outside.specs.Disk.{Contents}
+use Rattle.ep_history.specs.Accept.{at_head, committed}
+use Rattle.ep_history.specs.Pad.{PadState, leave}
+use Rattle.ep_history.specs.Readings.{commit}
+use Rattle.ep_history.specs.declared.pad_bad.PadBad.{PadBad}
+use Rattle.ep_history.specs.declared.pad_bad.PadBad.TheVariants as bad
+use Rattle.ep_history.specs.declared.seat.Why.TheVariants as end
+use Rattle.ep_schedule.specs.World.{Name, Message, Reason as AReason, reason}
+use Rattle.ep_pad.specs.Held.{Held}
+use Rattle.ep_step.specs.Telling.{told_by}
+use Rattle.ep_event.specs.declared.shown.Ended.{Ended}
+use Rattle.ep_event.specs.declared.shown.Ended.TheVariants as ended
+use Rattle.ep_event.specs.declared.shown.Reason.{Reason}
+use Rattle.ep_event.specs.declared.shown.Reason.TheVariants as why
+use Rattle.ep_event.specs.declared.shown.Shown.{Shown}
+use Rattle.ep_event.specs.declared.shown.Shown.TheVariants as shown
+use Rattle.ep_event.specs.declared.shown.Verb.{Verb}
+use Rattle.ep_event.specs.declared.shown.Verb.TheVariants as verb
+use Rattle.ep_world.specs.declared.bad.WorldBad.{WorldBad}
+use Rattle.ep_world.specs.declared.bad.WorldBad.TheVariants as world_bad
+use Rattle.ep_world.specs.declared.taking.Took.{Took}
+use Rattle.ep_world.specs.declared.taking.Took.TheVariants as took
+use Rattle.ep_world.specs.Shows.{reason_of, shows_made}
+use Rattle.ep_world.specs.Standing.{IsAt}
+
+-- the word with which a refusal closes
+abbrev pub closing_word : Reason → Ended
+closing_word (why.Pad (bad.Dead (end.Deleted birth))) = ended.Deleted
+closing_word (why.Pad (bad.Dead (end.Replaced by))) = ended.UserDup
+closing_word (why.Pad bad.Gone) = ended.Deleted
+closing_word x = ended.BadChangeset
+
+-- the word of the closing that comes of it
+abbrev pub closing_of : Took → Option Ended
+closing_of (took.Made c) = None
+closing_of (took.Refused x) = Some (closing_word x)
+closing_of (took.NoRoom n) = Some ended.Full
+
+-- what is shown of it
+abbrev pub shows_took : Verb → Name → Took → Shown
+shows_took v n (took.Made c) = shows_made v n (told_by c)
+shows_took v n (took.Refused x) = shown.Refused v (Some n) x
+shows_took v n (took.NoRoom b) = shown.Refused v (Some n) (why.Pad (bad.JournalFull b))
+
+-- of a late message the journal is never asked
+abbrev pub shows_late : Name → Took → Result Shown WorldBad
+shows_late n (took.Made c) = Ok (shows_made verb.Late n (told_by c))
+shows_late n (took.Refused x) = Ok (shown.Refused verb.Late (Some n) x)
+shows_late n (took.NoRoom b) = Err (world_bad.Full b)
+
+-- what a refusal by the pad comes to
+abbrev pub not_made : PadBad → Result Took WorldBad
+not_made (bad.Store n) = Err (world_bad.Store n)
+not_made bad.NoMemory = Err world_bad.NoMemory
+not_made (bad.JournalFull n) = Ok (took.NoRoom n)
+not_made b = Ok (took.Refused (why.Pad b))
+
+module _ {D : Type 0} (told_by_disk : D → Option Contents) (failures : D → ℕ) where
+  -- a session's message is committed, or refused for its reason; or the journal has no room for what nothing else refuses
+  abbrev pub Brings : PadState → Session → Message → ℕ → Held D → Took → Type 0
+  Brings pad s msg now new (took.Made c) =
+      (reason pad s msg ≡ None) × (told_by c ≡ commit pad (at_head pad msg.base msg.change.edit)) × IsAt told_by_disk failures new (committed pad s now msg.base msg.change)
+  Brings pad s msg now new (took.Refused x) = (r : AReason) × (reason pad s msg ≡ Some r) × (x ≡ reason_of r) × IsAt told_by_disk failures new pad
+  Brings pad s msg now new (took.NoRoom b) = (reason pad s msg ≡ None) × IsAt told_by_disk failures new pad
+
+  -- the same, where a session whose message isn't taken is left
+  abbrev pub Settles : PadState → Session → Message → ℕ → Held D → Took → Type 0
+  Settles pad s msg now new (took.Made c) =
+      (reason pad s msg ≡ None) × (told_by c ≡ commit pad (at_head pad msg.base msg.change.edit)) × IsAt told_by_disk failures new (committed pad s now msg.base msg.change)
+  Settles pad s msg now new (took.Refused x) = (r : AReason) × (reason pad s msg ≡ Some r) × (x ≡ reason_of r) × IsAt told_by_disk failures new (leave pad s)
+  Settles pad s msg now new (took.NoRoom b) = (reason pad s msg ≡ None) × IsAt told_by_disk failures new (leave pad s)

@@ -1,0 +1,168 @@
+//! Who takes part, by name.
+
+ghost use Rattle.std.specs.Prelude.{◌≡◌, [], if◌then◌else◌, ◌≢◌, Option, Some, None, OnOk, IfOk, IfErr, position};
+ghost use Rattle.std.specs.Option.{option_map};
+ghost use Rattle.ep_units.specs.Text.{Text, text_eq};
+ghost use Rattle.ep_world.specs.Actors.{found, kept_cut_off, is_a_client, is_a_guest, IsNoClient, IsSame, IsWithout, PutsActor};
+ghost use Rattle.ep_world.specs.declared.actors.Actor.TheVariants as actor;
+ghost use Rattle.ep_world.specs.declared.bad.WorldBad.TheVariants as unknown;
+
+use crate::bad::WorldBad;
+use crate::conn::Conn;
+use crate::member::Member;
+use ep_units::{NoMemory, Units};
+use std::alloc::Global;
+use std::marker::Model;
+use std::mem::replace;
+
+/// Whom a name stands for.
+#[derive(Drop)]
+pub enum Actor {
+    /// A connection that sends what it likes, and hears nothing.
+    Guest(Conn),
+    Named(Member),
+}
+
+/// The place of a name.
+#[derive(Drop)]
+pub struct Slot {
+    pub(crate) name: Units,
+    pub(crate) actor: Option<Actor>,
+}
+
+/// Clients and guests by name.
+#[derive(Drop)]
+pub struct Actors {
+    slots: Vec<Slot>,
+}
+
+impl Model for Actors {
+    ghost use Rattle.std.specs.Prelude.{List};
+    ghost use Rattle.ep_world.specs.declared.actors.Slot.{Slot};
+    ghost use Rattle.ep_world.specs.Actors.{held_actors};
+
+    ghost Value = { List Slot };
+
+    ghost view = { held_actors };
+}
+
+impl Actors {
+    /// Nobody.
+    pub fn new(alloc: Global) -> Actors
+        ensures { result ≡ [] }
+    {
+        Actors {
+            slots: Vec::new(alloc),
+        }
+    }
+
+    fn place(&self, name: &Units) -> Option<usize>
+        ensures { result ≡ position (λ s. text_eq name.now s.name) self.now }
+    {
+        self.slots.iter().position(|slot| *name == slot.name)
+    }
+
+    /// Whom a name stands for.
+    pub fn find(&self, name: &Units) -> Option<&Actor>
+        ensures { option_map (λ a. a.now) result ≡ found self.now name.now }
+    {
+        let place = self.place(name)?;
+        self.slots[place].actor.as_ref()
+    }
+
+    pub fn is_guest(&self, name: &Units) -> bool
+        ensures { result ≡ is_a_guest (found self.now name.now) }
+    {
+        match self.find(name) {
+            Some(Actor::Guest(_)) => true,
+            _ => false,
+        }
+    }
+
+    pub fn is_client(&self, name: &Units) -> bool
+        ensures { result ≡ is_a_client (found self.now name.now) }
+    {
+        match self.find(name) {
+            Some(Actor::Named(_)) => true,
+            _ => false,
+        }
+    }
+
+    /// Takes out whom a name stands for, to be put back.
+    pub fn take(&mut self, name: &Units) -> Option<Actor>
+        ensures actor { result ≡ found self.old name.now }
+        ensures others { IsWithout self.old name.now self.new }
+    {
+        let place = self.place(name)?;
+        replace(&mut self.slots[place].actor, None)
+    }
+
+    /// The name stands for this one from now on.
+    pub fn put(&mut self, alloc: Global, name: &Units, actor: Actor) -> Result<(), NoMemory>
+        ensures { OnOk result (PutsActor self.old name.now actor self.new) }
+    {
+        match self.place(name) {
+            Some(place) => self.slots[place].put(actor),
+            None => self.slots.push(Slot {
+                name: name.copy(alloc)?,
+                actor: Some(actor),
+            })?,
+        }
+        Ok(())
+    }
+
+    /// Takes out the client of a name, to be put back.
+    pub(crate) fn member(&mut self, alloc: Global, name: &Units) -> Result<Member, WorldBad>
+        ensures taken { IfOk result (λ m. (found self.old name.now ≡ Some (actor.Named m)) × IsWithout self.old name.now self.new) }
+        ensures unknown { IfErr result (λ bad. bad ≡ unknown.Unknown → IsNoClient (found self.old name.now) × IsSame self.old self.new) }
+        ensures failed { IfErr result (λ bad. bad ≢ unknown.Unknown → bad ≡ unknown.NoMemory) }
+    {
+        match self.take(name) {
+            Some(Actor::Named(member)) => Ok(member),
+            Some(Actor::Guest(conn)) => {
+                self.put(alloc, name, Actor::Guest(conn))?;
+                Err(WorldBad::Unknown)
+            }
+            None => Err(WorldBad::Unknown),
+        }
+    }
+
+    /// A client is put back.
+    pub(crate) fn seat(
+        &mut self,
+        alloc: Global,
+        name: &Units,
+        member: Member,
+    ) -> Result<(), NoMemory>
+        ensures { OnOk result (PutsActor self.old name.now (actor.Named member) self.new) }
+    {
+        self.put(alloc, name, Actor::Named(member))
+    }
+
+    /// All connections are gone.
+    pub fn cut_off(&mut self)
+        ensures { (n : Text) → found self.new n ≡ option_map kept_cut_off (found self.old n) }
+    {
+        for place in 0..self.slots.len() {
+            self.slots[place].cut_off();
+        }
+    }
+}
+
+impl Slot {
+    fn put(&mut self, actor: Actor)
+        ensures { self.new ≡ record self.old { actor = Some actor } }
+    {
+        self.actor = Some(actor);
+    }
+
+    fn cut_off(&mut self)
+        ensures { self.new ≡ record self.old { actor = option_map kept_cut_off self.old.actor } }
+    {
+        match &mut self.actor {
+            None => {}
+            Some(Actor::Guest(conn)) => conn.cut(),
+            Some(Actor::Named(member)) => member.cut_off(),
+        }
+    }
+}

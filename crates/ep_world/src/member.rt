@@ -1,0 +1,147 @@
+//! A client with its connections.
+
+ghost use Rattle.std.specs.Prelude.{◌≡◌, suc, not, ◌&&◌, if◌then◌else◌, Option, Some, None, OnOk, IfOk};
+ghost use Rattle.ep_history.specs.Kept.{kept_heard, kept_lost, kept_resumes, is_kept_own};
+ghost use Rattle.ep_client.specs.Hearing.{kept_hears, told_of};
+ghost use Rattle.ep_event.specs.declared.shown.Shown.TheVariants as shown;
+ghost use Rattle.ep_world.specs.Conns.{kept_new};
+ghost use Rattle.ep_world.specs.Members.{HearsDown, SubmitsUp, TakesLate, kept_member_cut, kept_member_lost, kept_member_resumed};
+
+use crate::conn::Conn;
+use crate::message::{Down, Sent};
+use ep_client::{Client, Heard, Told};
+use ep_event::{Shown, Verb};
+use ep_history::Rev;
+use ep_units::{NoMemory, Session, Units};
+use std::alloc::Global;
+use std::mem::replace;
+
+/// A client, the birth of the pad that it is of, its connection, and the one before its last resumption.
+#[derive(Drop)]
+pub struct Member {
+    pub(crate) client: Client,
+    pub(crate) birth: u64,
+    pub(crate) conn: Conn,
+    pub(crate) earlier: Option<Conn>,
+}
+
+impl Member {
+    /// The client's connection is lost: its queue down is given up, its queue up stays.
+    pub fn lose(&mut self)
+        ensures { self.new ≡ kept_member_lost self.old }
+    {
+        if self.client.is_connected() {
+            self.client.lost();
+            self.conn.give_up();
+        }
+    }
+
+    /// It is connected anew, in this session, and is told the head.
+    pub fn resume(&mut self, alloc: Global, session: Session, head: u64)
+        ensures { self.new ≡ kept_member_resumed session head self.old }
+    {
+        let conn = Conn::new(alloc, session, self.client.rev());
+        self.client.resume(session, head);
+        self.earlier = Some(replace(&mut self.conn, conn));
+    }
+
+    /// All its connections are gone.
+    pub fn cut_off(&mut self)
+        ensures { self.new ≡ kept_member_cut self.old }
+    {
+        self.client.lost();
+        self.conn.cut();
+        self.earlier = None;
+    }
+
+    /// Whether it can be told anything: it is connected, and had no closing.
+    pub fn may_be_told(&self) -> bool
+        ensures { result ≡ (self.now.client.connected && not self.now.conn.closed) }
+    {
+        self.client.is_connected() && !self.conn.closed
+    }
+
+    /// The first message of the connection before its last resumption, with that connection's session.
+    pub fn late(&mut self) -> Option<(Session, Sent)>
+        ensures { TakesLate self.old result self.new }
+    {
+        let conn = self.earlier.as_mut()?;
+        let sent = conn.take()?;
+        Some((conn.session, sent))
+    }
+
+    /// It hears the first of its queue down. By the rules a client refuses nothing that it hears; if it did, that would be
+    /// answered as want of memory.
+    pub fn hear(&mut self, alloc: Global, name: Units) -> Result<Shown, NoMemory>
+        ensures { IfOk result (HearsDown name self.old self.new) }
+    {
+        let verb = Verb::Hear;
+        match self.conn.hear() {
+            None => Ok(Shown::Nothing { verb, name }),
+            Some(Down::Closing(word)) => {
+                self.client.lost();
+                Ok(Shown::Closed { verb, name, word })
+            }
+            Some(Down::Spent(rev)) => {
+                heard(&mut self.client, alloc, Heard::Nop { rev })?;
+                Ok(Shown::Noted { verb, name, rev })
+            }
+            Some(Down::Revision(rev)) => self.hear_rev(alloc, name, rev),
+        }
+    }
+
+    fn hear_rev(&mut self, alloc: Global, name: Units, next: Rev) -> Result<Shown, NoMemory>
+        ensures made { OnOk result (self.new ≡ record self.old { client = kept_heard next self.old.client }) }
+        ensures shown { IfOk result (λ s. s ≡ (if is_kept_own next.session self.old.client.sent_in then shown.Committed name (suc self.old.client.rev) else shown.Heard name (suc self.old.client.rev))) }
+    {
+        let Some(rev) = self.client.rev().checked_add(1) else {
+            return Err(NoMemory);
+        };
+        let told = heard(
+            &mut self.client,
+            alloc,
+            Heard::Rev {
+                rev,
+                change: next.change,
+                session: next.session,
+            },
+        )?;
+        Ok(match told {
+            Told::Commit => Shown::Committed { name, rev },
+            Told::News => Shown::Heard { name, rev },
+        })
+    }
+
+    /// It sends what it has to send, if there is something.
+    pub fn submit(&mut self, alloc: Global, name: Units) -> Result<Shown, NoMemory>
+        ensures { IfOk result (SubmitsUp name self.old self.new) }
+    {
+        let Some(submission) = self.client.submit(alloc)? else {
+            return Ok(Shown::Nothing {
+                verb: Verb::Submit,
+                name,
+            });
+        };
+        let change = submission.change.copy(alloc)?;
+        self.conn.send(Sent {
+            base: submission.base,
+            change: Ok(change),
+        })?;
+        Ok(Shown::Submitted {
+            name,
+            base: submission.base,
+            change: submission.change,
+        })
+    }
+}
+
+/// A client hears, or memory is wanting.
+fn heard(client: &mut Client, alloc: Global, heard: Heard) -> Result<Told, NoMemory>
+    ensures made { OnOk result (client.new ≡ kept_hears heard client.old) }
+    ensures told { IfOk result (λ t. t ≡ told_of heard client.old) }
+{
+    match client.hear(alloc, &heard) {
+        Ok(told) => Ok(told),
+        Err(_) => Err(NoMemory),
+    }
+}

@@ -1,0 +1,51 @@
+//! The schedule theorem, of what is played.
+
+ghost use Rattle.std.specs.Prelude.{◌∷◌, ◌++◌, [], List, ℕ, IfOk};
+ghost use Rattle.ep_outside.specs.declared.limits.Limits.{Limits};
+ghost use Rattle.ep_schedule.specs.World.{WorldState, start};
+ghost use Rattle.ep_schedule.specs.Kepts.{Kepts, nobodies};
+ghost use Rattle.ep_pad_file.specs.Standing.{Holds};
+ghost use Rattle.ep_event.specs.declared.event.Event.{Event as Told};
+ghost use Rattle.ep_world.specs.Leading.{IsScheduled, Lead, Stays};
+ghost use Rattle.ep_world.specs.Standing.{StandsFor};
+
+use crate::bad::WorldBad;
+use crate::world::World;
+use ep_event::Event;
+use ep_outside::{Crash, Limits};
+use ep_units::PadId;
+use std::alloc::Global;
+
+/// Plays events, each at its moment, on the pad of an empty disk; one that names nobody, or brings no text, is passed over.
+/// Whatever they are, the world then stands for one of the rules to which they lead, and of that the schedule theorem
+/// says: each well-formed edit that the server took from a live writer is committed once, rebased through every later
+/// revision; what was acknowledged is there; and each client that has nothing pending or undelivered shows the head.
+pub fn schedule_law<D: Crash + Drop>(
+    alloc: Global,
+    disk: D,
+    limits: Limits,
+    id: PadId,
+    events: Vec<(u64, Event)>,
+) -> Result<World<D>, WorldBad>
+    ensures { Holds (D.told disk) [] → IfOk result (λ world. (limits : Limits) × ((w : WorldState) × ((ks : Kepts)
+        × (Lead (start limits id) nobodies events.items w ks × StandsFor D.told D.failures world w ks × IsScheduled w ks)))) }
+{
+    let mut world = World::new(alloc, disk, limits, id)?;
+    for (now, event) in events {
+        play(&mut world, now, event)?;
+    }
+    Ok(world)
+}
+
+/// One event, or none where it names nobody or brings no text.
+fn play<D: Crash>(world: &mut World<D>, now: u64, event: Event) -> Result<(), WorldBad>
+    ensures { (first : WorldState) (es : List (ℕ × Told)) → Stays D.told D.failures world.old first es
+        → IfOk result (λ _. Stays D.told D.failures world.new first (es ++ (now, event) ∷ [])) }
+{
+    match world.step(now, event) {
+        Ok(_shown) => Ok(()),
+        Err(WorldBad::Unknown) => Ok(()),
+        Err(WorldBad::NoText) => Ok(()),
+        Err(bad) => Err(bad),
+    }
+}

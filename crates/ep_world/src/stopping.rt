@@ -1,0 +1,138 @@
+//! The server stops and starts again.
+
+ghost use Rattle.std.specs.Prelude.{◌≡◌, Option, Some, None, IfErr, IfOk, MatchResult};
+ghost use Rattle.std.specs.Option.{option_map};
+ghost use Rattle.ep_units.specs.declared.session.Session.{Session};
+ghost use Rattle.ep_history.specs.Machine.{MachineState, IsKeptState};
+ghost use Rattle.ep_history.specs.Pad.{PadState};
+ghost use Rattle.ep_schedule.specs.World.{Message};
+ghost use Rattle.ep_pad.specs.Standing.{Stands};
+ghost use Rattle.ep_event.specs.declared.event.Event.TheVariants as event;
+ghost use Rattle.ep_world.specs.Failing.{IsFailure};
+ghost use Rattle.ep_world.specs.Shows.{shows_opening};
+ghost use Rattle.ep_world.specs.Standing.{IsAt, Plays};
+ghost use Rattle.ep_world.specs.Stopping.{BreaksOff, FindsFirst, Reopens, TakesFirst, TakesSent, taken_of};
+
+use crate::actors::{Actor, Actors};
+use crate::bad::{WorldBad, failure};
+use crate::conn::Conn;
+use crate::message::Sent;
+use crate::world::World;
+use ep_event::{Shown, StopAt};
+use ep_history::PadBad;
+use ep_outside::{Crash, Disk};
+use ep_pad::PadMachine;
+use ep_units::{Session, Units};
+use std::alloc::Global;
+
+impl<D: Crash> World<D> {
+    /// A crash between two calls: all connections are lost, and the pad is opened anew.
+    pub(crate) fn crash(&mut self, now: u64) -> Result<Shown, WorldBad>
+        ensures { Plays D.told D.failures self.old now (event.Stop None) result self.new }
+    {
+        reopen(&mut self.machine)?;
+        self.actors.cut_off();
+        opening(&mut self.machine)
+    }
+
+    /// A crash within the take of a name's first message, where it has one.
+    pub(crate) fn stop(&mut self, at: StopAt, now: u64) -> Result<Shown, WorldBad>
+        ensures { Plays D.told D.failures self.old now (event.Stop (Some at)) result self.new }
+    {
+        let StopAt { name, calls, image } = at;
+        let first = first_sent(self.alloc, &mut self.actors, &name)?;
+        self.machine.stop_after(calls, image);
+        break_off(&mut self.machine, first, now)?;
+        reopen(&mut self.machine)?;
+        self.actors.cut_off();
+        opening(&mut self.machine)
+    }
+}
+
+/// The machine is started again, and finds what the crash left.
+fn reopen<D: Crash>(machine: &mut PadMachine<D>) -> Result<(), WorldBad>
+    ensures reopens { (st : MachineState) → IsKeptState st → Stands D.told D.failures machine.old st → IfOk result (λ _. Reopens D.told D.failures st machine.new) }
+    ensures failed { IfErr result IsFailure }
+{
+    match machine.restart() {
+        Ok(()) => Ok(()),
+        Err(bad) => Err(failure(bad)),
+    }
+}
+
+/// The take that the crash comes into, where there is a message. Whether its record is kept, the disk decides.
+fn break_off<D: Disk>(
+    machine: &mut PadMachine<D>,
+    first: Option<(Session, Sent)>,
+    now: u64,
+) -> Result<(), WorldBad>
+    ensures breaks { (pad : PadState) (message : Option (Session × Message)) → first ≡ option_map taken_of message → IsAt D.told D.failures machine.old pad
+        → IfOk result (λ _. BreaksOff D.told D.failures pad now message machine.new) }
+    ensures failed { IfErr result IsFailure }
+{
+    let Some((session, sent)) = first else {
+        return Ok(());
+    };
+    let Sent { base, change } = sent;
+    let Ok(change) = change else {
+        return Ok(());
+    };
+    let _normal = change.ops();
+    match machine.accept(session, base, change, now) {
+        Err(PadBad::NoMemory) => Err(WorldBad::NoMemory),
+        _ => Ok(()),
+    }
+}
+
+/// The first message of a name, with its session. The queue is gone after the crash in any case.
+fn first_sent(
+    alloc: Global,
+    actors: &mut Actors,
+    name: &Units,
+) -> Result<Option<(Session, Sent)>, WorldBad>
+    ensures { FindsFirst actors.old name.now result actors.new }
+{
+    match actors.take(name) {
+        Some(mut actor) => {
+            let first = actor.first_sent();
+            actors.put(alloc, name, actor)?;
+            Ok(first)
+        }
+        None => Err(WorldBad::Unknown),
+    }
+}
+
+impl Actor {
+    /// The first message of the queue up, with its session.
+    fn first_sent(&mut self) -> Option<(Session, Sent)>
+        ensures { TakesFirst self.old result self.new }
+    {
+        match self {
+            Actor::Guest(conn) => first_of(conn),
+            Actor::Named(member) => first_of(&mut member.conn),
+        }
+    }
+}
+
+fn first_of(conn: &mut Conn) -> Option<(Session, Sent)>
+    ensures { TakesSent conn.old result conn.new }
+{
+    let sent = conn.take()?;
+    Some((conn.session, sent))
+}
+
+/// The number of the opening, and the head where the pad is there.
+fn opening<D: Disk>(machine: &mut PadMachine<D>) -> Result<Shown, WorldBad>
+    ensures { (pad : PadState) → IsAt D.told D.failures machine.old pad
+        → MatchResult result (λ shown. (shown ≡ shows_opening pad) × IsAt D.told D.failures machine.new pad) IsFailure }
+{
+    let epoch = machine.epoch();
+    match machine.status() {
+        Ok(status) => Ok(Shown::Crashed {
+            epoch,
+            head: Some(status.head),
+        }),
+        Err(PadBad::Gone) => Ok(Shown::Crashed { epoch, head: None }),
+        Err(bad) => Err(failure(bad)),
+    }
+}

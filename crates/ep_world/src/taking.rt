@@ -1,0 +1,295 @@
+//! The server takes messages.
+
+ghost use Rattle.std.specs.Prelude.{◌≡◌, ℕ, true, Some, MatchResult};
+ghost use Rattle.ep_cs.specs.EditFits.{is_edit};
+ghost use Rattle.ep_history.specs.Pad.{PadState, leave};
+ghost use Rattle.ep_schedule.specs.World.{Message, Conn as AConn, Member as AMember, WorldState};
+ghost use Rattle.ep_schedule.specs.World.Actor.{Guest, Named};
+ghost use Rattle.ep_schedule.specs.Kepts.{Kepts};
+ghost use Rattle.ep_event.specs.declared.event.Event.TheVariants as event;
+ghost use Rattle.ep_world.specs.Actors.{member_of};
+ghost use Rattle.ep_world.specs.Conns.{conn_of, sent_of};
+ghost use Rattle.ep_world.specs.Failing.{IsFailure};
+ghost use Rattle.ep_world.specs.Standing.{Comes, IsAt, Plays, StandsBut};
+ghost use Rattle.ep_step.specs.Telling.{told_by};
+ghost use Rattle.ep_event.specs.declared.shown.Shown.TheVariants as shown;
+ghost use Rattle.ep_world.specs.Shows.{shows_made};
+ghost use Rattle.ep_world.specs.Taking.{Brings, Settles, closing_of, closing_word, not_made, shows_late, shows_took};
+
+use crate::actors::Actor;
+use crate::bad::{WorldBad, failure};
+use crate::conn::Conn;
+use crate::member::Member;
+use crate::message::Sent;
+use crate::world::World;
+use ep_cs::Change;
+use ep_event::{Ended, Reason, Shown, Verb};
+use ep_history::{PadBad, Why};
+use ep_outside::{Crash, Disk};
+use ep_pad::{Committed, PadMachine};
+use ep_units::{Session, Units};
+
+/// What a take of a message comes to.
+#[derive(Drop)]
+pub(crate) enum Took {
+    Made(Committed),
+    Refused(Reason),
+    /// The journal would have so many bytes.
+    NoRoom(u64),
+}
+
+impl<D: Crash> World<D> {
+    /// The server takes the first message of a name.
+    pub(crate) fn take(&mut self, name: Units, now: u64) -> Result<Shown, WorldBad>
+        ensures { Plays D.told D.failures self.old now (event.Take name) result self.new }
+    {
+        match self.actors.take(&name) {
+            None => Err(WorldBad::Unknown),
+            Some(Actor::Guest(conn)) => self.take_of_guest(name, conn, now),
+            Some(Actor::Named(member)) => self.take_of_member(name, member, now),
+        }
+    }
+
+    fn take_of_guest(
+        &mut self,
+        name: Units,
+        mut conn: Conn,
+        now: u64,
+    ) -> Result<Shown, WorldBad>
+        ensures { (w : WorldState) (ks : Kepts) (c : AConn) → w.actors name ≡ Guest c → conn ≡ conn_of c → StandsBut D.told D.failures self.old name w ks
+            → Comes D.told D.failures w ks now (event.Take name) self.new result }
+    {
+        let session = conn.session();
+        let Some(sent) = conn.take() else {
+            self.actors.put(self.alloc, &name, Actor::Guest(conn))?;
+            return Ok(Shown::Nothing {
+                verb: Verb::Take,
+                name,
+            });
+        };
+        let took = match bring_or_leave(&mut self.machine, session, sent, now) {
+            Ok(took) => took,
+            Err(bad) => return Err(bad),
+        };
+        self.actors.put(self.alloc, &name, Actor::Guest(conn))?;
+        Ok(took.show(Verb::Take, name))
+    }
+
+    fn take_of_member(
+        &mut self,
+        name: Units,
+        mut member: Member,
+        now: u64,
+    ) -> Result<Shown, WorldBad>
+        ensures { (w : WorldState) (ks : Kepts) (m : AMember) → w.actors name ≡ Named m → member ≡ member_of m (ks name) → StandsBut D.told D.failures self.old name w ks
+            → Comes D.told D.failures w ks now (event.Take name) self.new result }
+    {
+        let session = member.conn.session();
+        let Some(sent) = member.conn.take() else {
+            self.actors.seat(self.alloc, &name, member)?;
+            return Ok(Shown::Nothing {
+                verb: Verb::Take,
+                name,
+            });
+        };
+        let took = match bring_or_leave(&mut self.machine, session, sent, now) {
+            Ok(took) => took,
+            Err(bad) => return Err(bad),
+        };
+        member.conn.close_if(took.closing())?;
+        self.actors.seat(self.alloc, &name, member)?;
+        Ok(took.show(Verb::Take, name))
+    }
+
+    /// The server takes the first message of the connection that a client had before its last resumption.
+    pub(crate) fn late(&mut self, name: Units, now: u64) -> Result<Shown, WorldBad>
+        ensures { Plays D.told D.failures self.old now (event.Late name) result self.new }
+    {
+        let mut member = self.actors.member(self.alloc, &name)?;
+        let Some((session, sent)) = member.late() else {
+            self.actors.seat(self.alloc, &name, member)?;
+            return Ok(Shown::Nothing {
+                verb: Verb::Late,
+                name,
+            });
+        };
+        let took = match bring(&mut self.machine, session, sent, now) {
+            Ok(took) => took,
+            Err(bad) => return Err(bad),
+        };
+        self.actors.seat(self.alloc, &name, member)?;
+        took.show_late(name)
+    }
+}
+
+/// A session's message is brought to the pad; where it isn't taken the session is left.
+fn bring_or_leave<D: Disk>(
+    machine: &mut PadMachine<D>,
+    session: Session,
+    sent: Sent,
+    now: u64,
+) -> Result<Took, WorldBad>
+    ensures { (pad : PadState) (msg : Message) → sent ≡ sent_of msg → IsAt D.told D.failures machine.old pad
+        → MatchResult result (Settles D.told D.failures pad session msg now machine.new) IsFailure }
+{
+    match bring(machine, session, sent, now) {
+        Ok(took) => leave_unless_made(machine, session, took),
+        Err(bad) => Err(bad),
+    }
+}
+
+/// A session whose message isn't taken is left.
+fn leave_unless_made<D: Disk>(
+    machine: &mut PadMachine<D>,
+    session: Session,
+    took: Took,
+) -> Result<Took, WorldBad>
+    ensures { (pad : PadState) (msg : Message) (now : ℕ) → Brings D.told D.failures pad session msg now machine.old took
+        → MatchResult result (Settles D.told D.failures pad session msg now machine.new) IsFailure }
+{
+    match took {
+        Took::Made(made) => Ok(Took::Made(made)),
+        Took::Refused(why) => match give_leave(machine, session) {
+            Ok(()) => Ok(Took::Refused(why)),
+            Err(bad) => Err(bad),
+        },
+        Took::NoRoom(bytes) => match give_leave(machine, session) {
+            Ok(()) => Ok(Took::NoRoom(bytes)),
+            Err(bad) => Err(bad),
+        },
+    }
+}
+
+/// A session's message is brought to the pad, where its text spells a change.
+pub(crate) fn bring<D: Disk>(
+    machine: &mut PadMachine<D>,
+    session: Session,
+    sent: Sent,
+    now: u64,
+) -> Result<Took, WorldBad>
+    ensures { (pad : PadState) (msg : Message) → sent ≡ sent_of msg → IsAt D.told D.failures machine.old pad
+        → MatchResult result (Brings D.told D.failures pad session msg now machine.new) IsFailure }
+{
+    let Sent { base, change } = sent;
+    match change {
+        Ok(change) => accept(machine, session, base, change, now),
+        Err(why) => Ok(Took::Refused(Reason::Read(why))),
+    }
+}
+
+/// A session's change is brought to the pad.
+fn accept<D: Disk>(
+    machine: &mut PadMachine<D>,
+    session: Session,
+    base: u64,
+    change: Change,
+    now: u64,
+) -> Result<Took, WorldBad>
+    ensures { (pad : PadState) (msg : Message) → msg.base ≡ base → msg.change ≡ change → is_edit change.edit ≡ true → IsAt D.told D.failures machine.old pad
+        → MatchResult result (Brings D.told D.failures pad session msg now machine.new) IsFailure }
+{
+    match machine.accept(session, base, change, now) {
+        Ok(made) => Ok(Took::Made(made)),
+        Err(bad) => not_made(bad),
+    }
+}
+
+/// What a refusal by the pad comes to.
+fn not_made(bad: PadBad) -> Result<Took, WorldBad>
+    ensures { result ≡ not_made bad }
+{
+    match bad {
+        PadBad::Store(count) => Err(WorldBad::Store(count)),
+        PadBad::NoMemory => Err(WorldBad::NoMemory),
+        PadBad::JournalFull(bytes) => Ok(Took::NoRoom(bytes)),
+        bad => Ok(Took::Refused(Reason::Pad(bad))),
+    }
+}
+
+/// A session whose message isn't taken is left, if it was live.
+fn give_leave<D: Disk>(machine: &mut PadMachine<D>, session: Session) -> Result<(), WorldBad>
+    ensures { (pad : PadState) → IsAt D.told D.failures machine.old pad
+        → MatchResult result (λ _. IsAt D.told D.failures machine.new (leave pad session)) IsFailure }
+{
+    match machine.leave(session) {
+        Ok(()) => Ok(()),
+        Err(PadBad::Dead(_)) => Ok(()),
+        Err(bad) => Err(failure(bad)),
+    }
+}
+
+/// The word with which a refusal closes.
+fn closing_word(why: &Reason) -> Ended
+    ensures { result ≡ closing_word why.now }
+{
+    match why {
+        Reason::Pad(PadBad::Dead(Why::Deleted(_))) => Ended::Deleted,
+        Reason::Pad(PadBad::Dead(Why::Replaced(_))) => Ended::UserDup,
+        Reason::Pad(PadBad::Gone) => Ended::Deleted,
+        _ => Ended::BadChangeset,
+    }
+}
+
+impl Took {
+    /// The word of the closing that it brings.
+    fn closing(&self) -> Option<Ended>
+        ensures { result ≡ closing_of self.now }
+    {
+        match self {
+            Took::Made(_) => None,
+            Took::Refused(why) => Some(closing_word(why)),
+            Took::NoRoom(_) => Some(Ended::Full),
+        }
+    }
+
+    fn show(self, verb: Verb, name: Units) -> Shown
+        ensures { result ≡ shows_took verb name self }
+    {
+        match self {
+            Took::Made(made) => show_made(verb, name, made),
+            Took::Refused(why) => refuse(verb, name, why),
+            Took::NoRoom(bytes) => refuse(verb, name, Reason::Pad(PadBad::JournalFull(bytes))),
+        }
+    }
+
+    /// The session of a late message has ended, so that by the rules it is refused before the journal is asked.
+    fn show_late(self, name: Units) -> Result<Shown, WorldBad>
+        ensures { result ≡ shows_late name self }
+    {
+        match self {
+            Took::Made(made) => Ok(show_made(Verb::Late, name, made)),
+            Took::Refused(why) => Ok(refuse(Verb::Late, name, why)),
+            Took::NoRoom(bytes) => Err(WorldBad::Full(bytes)),
+        }
+    }
+}
+
+fn refuse(verb: Verb, name: Units, why: Reason) -> Shown
+    ensures { result ≡ shown.Refused verb (Some name) why }
+{
+    Shown::Refused {
+        verb,
+        name: Some(name),
+        why,
+    }
+}
+
+fn show_made(verb: Verb, name: Units, made: Committed) -> Shown
+    ensures { result ≡ shows_made verb name (told_by made) }
+{
+    if made.nop {
+        Shown::Noted {
+            verb,
+            name,
+            rev: made.rev,
+        }
+    } else {
+        Shown::Taken {
+            verb,
+            name,
+            rev: made.rev,
+            fixed: made.fixed,
+            change: made.change,
+        }
+    }
+}
