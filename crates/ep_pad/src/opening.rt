@@ -99,8 +99,9 @@ impl<D: Disk> PadMachine<D> {
 
     /// Opens the pad of a disk. A refusal hands the disk back.
     pub fn open(alloc: Global, disk: D, limits: Limits) -> Result<PadMachine<D>, Refused<D, PadBad>>
-        // It has made no call yet.
+        // It has made no call yet, and is held to these limits.
         ensures begun { IfOk result (λ m. HasMade D.told D.failures m []) }
+        ensures limits { IfOk result (λ m. m.limits ≡ limits) }
         // A disk that tells a legal list of records.
         ensures first { (rs : List Record) → Holds (D.told disk) rs → AreLegal limits rs
             → IfOk result (λ m. (st : MachineState) × IsFirst st × (st.records ≡ rs ++ opening (told limits rs) ∷ []) × Stands D.told D.failures m st) }

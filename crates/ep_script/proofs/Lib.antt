@@ -1,4 +1,5 @@
-pub mod Cuts
+pub mod Reading
+pub mod Rows
 pub mod Escapes
 pub mod Numbers
 pub mod Spaces

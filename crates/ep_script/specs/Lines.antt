@@ -1,24 +1,27 @@
 -- The lines of a script.
-use Rattle.std.specs.Prelude.{ℕ, Bool, false, ◌==◌, ◌&&◌, if◌then◌else◌, List, [], ◌∷◌}
+use Rattle.std.specs.Prelude.{ℕ, Bool, true, false, ◌==◌, if◌then◌else◌, List, [], ◌∷◌}
 
-abbrev pub begins_with : ℕ → List ℕ → Bool
-begins_with b [] = false
-begins_with b (c ∷ cs) = c == b
+-- a line as it stands in a script: its bytes without the LF, and whether one ends it
+pub record Row : Type 0 where
+  pub bytes : List ℕ
+  pub ended : Bool
 
 -- the first line begins with the byte
-abbrev pub onto : ℕ → List (List ℕ) → List (List ℕ)
-onto b [] = (b ∷ []) ∷ []
-onto b (line ∷ lines) = (b ∷ line) ∷ lines
+abbrev pub onto : ℕ → List Row → List Row
+onto b [] = record { bytes = b ∷ []; ended = false } ∷ []
+onto b (row ∷ rows) = record { bytes = b ∷ row.bytes; ended = row.ended } ∷ rows
 
--- Lines end with LF, which the last may lack; a CR before LF is dropped
-abbrev pub lines_of : List ℕ → List (List ℕ)
-lines_of [] = []
-lines_of (b ∷ bs) =
-    if b == 10 then [] ∷ lines_of bs
-    else (if (b == 13) && begins_with 10 bs then lines_of bs else onto b (lines_of bs))
+-- Lines end with LF, which the last may lack
+abbrev pub rows_of : List ℕ → List Row
+rows_of [] = []
+rows_of (b ∷ bs) = if b == 10 then record { bytes = []; ended = true } ∷ rows_of bs else onto b (rows_of bs)
 
--- a line without the CR at its end
+-- bytes without the CR at their end
 abbrev pub without_cr : List ℕ → List ℕ
 without_cr [] = []
 without_cr (b ∷ []) = if b == 13 then [] else b ∷ []
 without_cr (b ∷ c ∷ cs) = b ∷ without_cr (c ∷ cs)
+
+-- what a line says: a CR before its LF is dropped
+abbrev pub said : Row → List ℕ
+said row = if row.ended then without_cr row.bytes else row.bytes

@@ -8,11 +8,11 @@ mod edits;
 mod fields;
 mod forms;
 mod line;
-mod lines;
+mod script;
 mod texts;
 mod words;
 mod write_line;
 
 pub use line::{Line, LineBad, read_line};
-pub use lines::cut_line;
+pub use script::{MOST_LINE, MOST_SCRIPT, Script, ScriptBad, ScriptLine};
 pub use write_line::{WriteLine, read_write_line};

@@ -15,14 +15,14 @@ use Rattle.ep_world.specs.Standing.{StandsFor}
 
 module _ {D : Type 0} (told_by : D → Option Contents) (failures : D → ℕ) where
   pub begins : (world : World D) (limits : Limits) (id : Text) (st : MachineState) → IsFirst st → st.records ≡ [] ++ opening (told limits []) ∷ []
-      → Stands told_by failures world.machine st → world.id ≡ id → world.actors ≡ [] → StandsFor told_by failures world (start st.pad.limits id) nobodies
-  begins world limits id st first records stands same nobody = record {
+      → Stands told_by failures world.machine st → world.machine.limits ≡ limits → world.id ≡ id → world.actors ≡ [] → StandsFor told_by failures world (start limits id) nobodies
+  begins world limits id st first records stands held same nobody = record {
     machine = record {
       state = st;
       stands = stands;
       kept = first-kept st first;
       is_open = first.is_open;
-      pad = first.told ∙ ap (told st.pad.limits) records;
+      pad = first.told ∙ ap (told st.pad.limits) records ∙ ap (λ l. told l ([] ++ opening (told limits []) ∷ [])) (stands.limits ∙ held);
     };
     id = same;
     actors = λ n. ap (λ s. found s n) nobody;

@@ -1,7 +1,6 @@
 //! The schedule theorem, of what is played.
 
 ghost use Rattle.std.specs.Prelude.{◌∷◌, ◌++◌, [], List, ℕ, IfOk};
-ghost use Rattle.ep_outside.specs.declared.limits.Limits.{Limits};
 ghost use Rattle.ep_schedule.specs.World.{WorldState, start};
 ghost use Rattle.ep_schedule.specs.Kepts.{Kepts, nobodies};
 ghost use Rattle.ep_pad_file.specs.Standing.{Holds};
@@ -27,8 +26,8 @@ pub fn schedule_law<D: Crash + Drop>(
     id: PadId,
     events: Vec<(u64, Event)>,
 ) -> Result<World<D>, WorldBad>
-    ensures { Holds (D.told disk) [] → IfOk result (λ world. (limits : Limits) × ((w : WorldState) × ((ks : Kepts)
-        × (Lead (start limits id) nobodies events.items w ks × StandsFor D.told D.failures world w ks × IsScheduled w ks)))) }
+    ensures { Holds (D.told disk) [] → IfOk result (λ world. (w : WorldState) × ((ks : Kepts)
+        × (Lead (start limits id) nobodies events.items w ks × StandsFor D.told D.failures world w ks × IsScheduled w ks))) }
 {
     let mut world = World::new(alloc, disk, limits, id)?;
     for (now, event) in events {

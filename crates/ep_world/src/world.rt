@@ -1,7 +1,6 @@
 //! The world: a pad's machine, and who takes part.
 
 ghost use Rattle.std.specs.Prelude.{◌≡◌, ℕ, [], IfOk};
-ghost use Rattle.ep_outside.specs.declared.limits.Limits.{Limits};
 ghost use Rattle.ep_schedule.specs.World.{start};
 ghost use Rattle.ep_schedule.specs.Kepts.{nobodies};
 ghost use Rattle.ep_pad_file.specs.Standing.{Holds};
@@ -29,7 +28,7 @@ impl<D: Crash> World<D> {
     pub fn new(alloc: Global, disk: D, limits: Limits, id: PadId) -> Result<World<D>, WorldBad>
     where
         D: Drop,
-        ensures { Holds (D.told disk) [] → IfOk result (λ world. (limits : Limits) × StandsFor D.told D.failures world (start limits id) nobodies) }
+        ensures { Holds (D.told disk) [] → IfOk result (λ world. StandsFor D.told D.failures world (start limits id) nobodies) }
     {
         match PadMachine::open(alloc, disk, limits) {
             Ok(machine) => Ok(World {

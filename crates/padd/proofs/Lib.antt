@@ -1,5 +1,5 @@
 pub mod Transcripts
 pub mod Playing
+pub mod Scripts
 pub mod Lines
-pub mod Asking
 pub mod Running

@@ -7,13 +7,10 @@ use Rattle.std.specs.declared.alloc.Global.{Global}
 use Rattle.ep_outside.specs.Disk.{Contents}
 use Rattle.ep_outside.specs.Outside.{Takes, TakesPart}
 use Rattle.ep_outside.proofs.Pieces.{Takes-append, Takes-nil, breaks_off, stopped}
-use Rattle.ep_script.specs.Lines.{lines_of}
-use Rattle.ep_script.specs.Line.{line_of}
 use Rattle.ep_script.specs.declared.line.Line.{Line}
-use Rattle.ep_script.specs.declared.line.LineBad.{LineBad}
 use Rattle.ep_world.specs.declared.world.World.{World}
 use Rattle.padd.specs.Ending.{EndsLines}
-use Rattle.padd.specs.Play.{Scene, Transcript, error_line, line_read, reads_of}
+use Rattle.padd.specs.Play.{Scene, Transcript, error_line}
 use Rattle.padd.specs.Played.{IsStage, PlaysLine}
 use Rattle.padd.specs.declared.play.PlayBad.{PlayBad}
 use Rattle.padd.specs.declared.reason.Reason.{Reason}
@@ -22,15 +19,7 @@ use Rattle.padd.specs.declared.stage.Stop.TheVariants.{At}
 use Rattle.padd.proofs.Transcripts.{goes, some, stops-here}
 
 abbrev Reads : Type 0
-Reads = List (Result Line LineBad)
-
-pub first_read : (script line behind : List ℕ) → lines_of script ≡ line ∷ lines_of behind → reads_of script ≡ line_read (line_of line) ∷ reads_of behind
-first_read script line behind e = ap (map (λ bytes. line_read (line_of bytes))) e
-
--- an empty script has no lines
-pub nothing_left : (xs : List ℕ) (b : Bool) → b ≡ (length xs == 0) → b ≡ true → reads_of xs ≡ []
-nothing_left [] b e t = refl
-nothing_left (x ∷ xs) b e t = absurd (let k : length (x ∷ xs) ≡ 0 = eqb-true (length (x ∷ xs)) 0 (sym e ∙ t) in omega (arith, k))
+Reads = List (Result Line Reason)
 
 module _ {D : Type 0} (told : D → Option Contents) (failures : D → ℕ) where
   -- the stage stands where the lines that are left begin; and any transcript of these goes on what was written
@@ -44,7 +33,7 @@ module _ {D : Type 0} (told : D → Option Contents) (failures : D → ℕ) wher
   pub begun : (stage : Stage D) (s : Scene) (held : Option (List ℕ)) (all : Reads) → IsStage told failures stage s → IsPlaying stage s held held all 1 all
   begun stage s held all h = record { at = s; stands = h; gone = []; takes = Takes-nil held; leads = λ rest status end t. t }
 
-  module _ (stage new : Stage D) (first : Scene) (a b c : Option (List ℕ)) (all : Reads) (k : ℕ) (reads behind : Reads) (r : Result Line LineBad) (is : reads ≡ r ∷ behind)
+  module _ (stage new : Stage D) (first : Scene) (a b c : Option (List ℕ)) (all : Reads) (k : ℕ) (reads behind : Reads) (r : Result Line Reason) (is : reads ≡ r ∷ behind)
       (p : IsPlaying stage first a b all k reads) where
     -- a transcript of the lines that are left
     from-here : (out : List ℕ) (status : ℕ) (end : Scene) → Transcript k p.at (r ∷ behind) out status end → Transcript 1 first all (p.gone ++ out) status end

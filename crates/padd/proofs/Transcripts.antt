@@ -9,10 +9,9 @@ use Rattle.ep_event.specs.declared.shown.Shown.TheVariants as shown
 use Rattle.ep_pool.specs.Pool.{number_of}
 use Rattle.ep_script.specs.declared.line.Line.{Line}
 use Rattle.ep_script.specs.declared.line.Line.TheVariants as line
-use Rattle.ep_script.specs.declared.line.LineBad.{LineBad}
 use Rattle.ep_world.specs.Events.{event_at}
 use Rattle.ep_world.specs.Shows.{shows, shows_head, shows_marks, shows_text, shows_view, shows_view_marks}
-use Rattle.padd.specs.Play.{Scene, Happens, Shows, ShowsRead, Transcript, after, error_line, line_stops, reason_of, stops, with_pair, written}
+use Rattle.padd.specs.Play.{Scene, Happens, Shows, ShowsRead, Transcript, after, error_line, line_stops, stops, with_pair, written}
 use Rattle.padd.specs.Play.Happens.{IsEvent}
 use Rattle.padd.specs.declared.reason.Reason.{Reason}
 
@@ -23,14 +22,14 @@ match-some : {A : Type 0} (o : Option A) (P : Type 0) (Q : A → Type 0) (x : A)
 match-some o P Q x e q = subst (λ y. MatchOption y P Q) (sym e) q
 
 -- a line that is played, and those behind it
-abbrev Goes : ℕ → Scene → Result Line LineBad → List (Result Line LineBad) → List ℕ → ℕ → Scene → Type 0
+abbrev Goes : ℕ → Scene → Result Line Reason → List (Result Line Reason) → List ℕ → ℕ → Scene → Type 0
 Goes k s r rs out status end = (o : Option Shown) × (next : Scene) × (rest : List ℕ) × ShowsRead k s r o next × (out ≡ written o ++ rest) × Transcript (k + 1) next rs rest status end
 
 -- one that isn't
 abbrev Stops : ℕ → Scene → List ℕ → ℕ → Scene → Reason → Type 0
 Stops k s out status end reason = (out ≡ error_line k reason) × (status ≡ 3) × (end ≡ s)
 
-module _ (k : ℕ) (s : Scene) (r : Result Line LineBad) (rs : List (Result Line LineBad)) where
+module _ (k : ℕ) (s : Scene) (r : Result Line Reason) (rs : List (Result Line Reason)) where
   pub goes : (o : Option Shown) (next : Scene) (rest : List ℕ) (status : ℕ) (end : Scene) → stops s.world r ≡ None → ShowsRead k s r o next → Transcript (k + 1) next rs rest status end
       → Transcript k s (r ∷ rs) (written o ++ rest) status end
   goes o next rest status end e h t =
@@ -60,10 +59,10 @@ some-shown k s (line.Text rev) = (Some (shows_text s.world.pad rev), s, (refl, r
 some-shown k s line.Marks = (Some (shows_marks s.world.pad), s, (refl, refl))
 some-shown k s (line.ViewMarks n) = (shows_view_marks s.world n, s, (refl, refl))
 
-abbrev pub SomeTranscript : ℕ → Scene → List (Result Line LineBad) → Type 0
+abbrev pub SomeTranscript : ℕ → Scene → List (Result Line Reason) → Type 0
 SomeTranscript k s reads = (out : List ℕ) × (status : ℕ) × (end : Scene) × Transcript k s reads out status end
 
-line-some : (k : ℕ) (s : Scene) (l : Line) (rs : List (Result Line LineBad)) → ((next : Scene) → SomeTranscript (k + 1) next rs) → (o : Option Reason) → line_stops s.world l ≡ o
+line-some : (k : ℕ) (s : Scene) (l : Line) (rs : List (Result Line Reason)) → ((next : Scene) → SomeTranscript (k + 1) next rs) → (o : Option Reason) → line_stops s.world l ≡ o
     → SomeTranscript k s (Ok l ∷ rs)
 line-some k s l rs behind None e =
     let x = some-shown k s l in
@@ -71,7 +70,7 @@ line-some k s l rs behind None e =
     (written x.0 ++ t.0, t.1, t.2, goes k s (Ok l) rs x.0 x.1 t.0 t.1 t.2 e x.2 t.3)
 line-some k s l rs behind (Some reason) e = (error_line k reason, 3, s, stops-here k s (Ok l) rs reason e)
 
-pub some : (k : ℕ) (s : Scene) (reads : List (Result Line LineBad)) → SomeTranscript k s reads
+pub some : (k : ℕ) (s : Scene) (reads : List (Result Line Reason)) → SomeTranscript k s reads
 some k s [] = ([], 0, s, (refl, refl, refl))
 some k s (Ok l ∷ rs) = line-some k s l rs (λ next. some (k + 1) next rs) (line_stops s.world l) refl
-some k s (Err bad ∷ rs) = (error_line k (reason_of bad), 3, s, stops-here k s (Err bad) rs (reason_of bad) refl)
+some k s (Err reason ∷ rs) = (error_line k reason, 3, s, stops-here k s (Err reason) rs reason refl)

@@ -1,5 +1,5 @@
 -- What a script may write, and the status that it ends with.
-use Rattle.std.specs.Prelude.{◌≡◌, ℕ, ◌+◌, Bool, true, false, nat_le, List, [], ◌∷◌, ◌++◌, codes, length, map, Option, Some, None, IsSome, MatchOption, Result, Ok, Err}
+use Rattle.std.specs.Prelude.{◌≡◌, ℕ, ◌+◌, Bool, true, false, if◌then◌else◌, List, [], ◌∷◌, ◌++◌, codes, Option, Some, None, IsSome, MatchOption, Result, Ok, Err}
 use Rattle.std.specs.Fmt.{decimal}
 use Rattle.ep_units.specs.Text.{Text}
 use Rattle.ep_attr.specs.AttrMap.{Pair}
@@ -14,7 +14,8 @@ use Rattle.ep_event.specs.declared.event.Event.{Event as Told}
 use Rattle.ep_event.specs.declared.event.Event.TheVariants as event
 use Rattle.ep_event.specs.declared.shown.Shown.{Shown}
 use Rattle.ep_event.specs.declared.shown.Shown.TheVariants as shown
-use Rattle.ep_script.specs.Lines.{lines_of}
+use Rattle.ep_script.specs.Lines.{Row, rows_of, said}
+use Rattle.ep_script.specs.Script.{is_long, width}
 use Rattle.ep_script.specs.Line.{line_of}
 use Rattle.ep_script.specs.Seen.{Seen, whole, stopped}
 use Rattle.ep_script.specs.declared.line.Line.{Line}
@@ -26,7 +27,7 @@ use Rattle.ep_world.specs.Events.{event_at, happened, kept_happened, is_client, 
 use Rattle.ep_world.specs.Shows.{shows, shows_head, shows_marks, shows_text, shows_view, shows_view_marks}
 use Rattle.ep_world.specs.Standing.{no_room, overfull_at}
 use Rattle.padd.specs.declared.reason.Reason.{Reason}
-use Rattle.padd.specs.declared.reason.Reason.TheVariants.{Utf8, Syntax, Unknown}
+use Rattle.padd.specs.declared.reason.Reason.TheVariants.{Utf8, Syntax, Long, Unknown}
 
 -- ---- the lines of a script
 
@@ -36,13 +37,28 @@ abbrev pub line_seen : Seen → Line
 line_seen (whole l) = l
 line_seen (stopped n calls left) = line.Event (event.Stop (Some (record { name = n; calls = calls; image = Old })))
 
-abbrev pub line_read : Result Seen LineBad → Result Line LineBad
+-- why bytes are no line; a definition never says that memory ran out
+abbrev pub reason_of : LineBad → Reason
+reason_of bad.Utf8 = Utf8
+reason_of bad.Syntax = Syntax
+reason_of bad.NoMemory = Syntax
+
+abbrev pub line_read : Result Seen LineBad → Result Line Reason
 line_read (Ok seen) = Ok (line_seen seen)
-line_read (Err bad) = Err bad
+line_read (Err bad) = Err (reason_of bad)
+
+-- the line that begins at a place: whether it is too long is asked first
+abbrev pub read_at : ℕ → Row → Result Line Reason
+read_at place row = if is_long place row then Err Long else line_read (line_of (said row))
+
+-- what each line is, of those that begin at a place
+abbrev pub reads_at : ℕ → List Row → List (Result Line Reason)
+reads_at place [] = []
+reads_at place (row ∷ rows) = read_at place row ∷ reads_at (place + width row) rows
 
 -- what each line of a script is
-abbrev pub reads_of : List ℕ → List (Result Line LineBad)
-reads_of script = map (λ bytes. line_read (line_of bytes)) (lines_of script)
+abbrev pub reads_of : List ℕ → List (Result Line Reason)
+reads_of script = reads_at 0 (rows_of script)
 
 -- ---- what stands between two lines
 
@@ -60,17 +76,15 @@ after s e = record { world = happened s.world e; kepts = kept_happened s.world s
 abbrev pub with_pair : Scene → Pair → Scene
 with_pair s pair = record { world = s.world; kepts = s.kepts; pool = put s.pool pair }
 
+-- what the pad of a script is held to
+abbrev pub play_limits : Limits
+play_limits = record { live = 500; logins = 1000000; units = 1000000; journal = 268435456; pads = 10000 }
+
 -- what a script begins with: no pad of this id yet, nobody, and no pair
-abbrev pub opening : Limits → Text → Scene
-opening limits id = record { world = start limits id; kepts = nobodies; pool = [] }
+abbrev pub opening : Text → Scene
+opening id = record { world = start play_limits id; kepts = nobodies; pool = [] }
 
 -- ---- why a line isn't played
-
--- why bytes are no line; a definition never says that memory ran out
-abbrev pub reason_of : LineBad → Reason
-reason_of bad.Utf8 = Utf8
-reason_of bad.Syntax = Syntax
-reason_of bad.NoMemory = Syntax
 
 abbrev pub unless : Bool → Option Reason
 unless true = None
@@ -85,9 +99,9 @@ line_stops w (line.ViewMarks n) = unless (is_client (w.actors n))
 line_stops w l = None
 
 -- nor is what is no line
-abbrev pub stops : WorldState → Result Line LineBad → Option Reason
+abbrev pub stops : WorldState → Result Line Reason → Option Reason
 stops w (Ok l) = line_stops w l
-stops w (Err bad) = Some (reason_of bad)
+stops w (Err reason) = Some reason
 
 -- ---- what a line shows
 
@@ -109,9 +123,9 @@ Shows k s (line.Text rev) o next = (o ≡ Some (shows_text s.world.pad rev)) × 
 Shows k s line.Marks o next = (o ≡ Some (shows_marks s.world.pad)) × (next ≡ s)
 Shows k s (line.ViewMarks n) o next = (o ≡ shows_view_marks s.world n) × (next ≡ s)
 
-abbrev pub ShowsRead : ℕ → Scene → Result Line LineBad → Option Shown → Scene → Type 0
+abbrev pub ShowsRead : ℕ → Scene → Result Line Reason → Option Shown → Scene → Type 0
 ShowsRead k s (Ok l) o next = Shows k s l o next
-ShowsRead k s (Err bad) o next = ⊥
+ShowsRead k s (Err reason) o next = ⊥
 
 -- what is shown is written, as a line of output
 abbrev pub written : Option Shown → List ℕ
@@ -123,6 +137,7 @@ written (Some x) = printed x
 abbrev pub reason_text : Reason → List ℕ
 reason_text Utf8 = codes " utf8\n"
 reason_text Syntax = codes " syntax\n"
+reason_text Long = codes " long\n"
 reason_text Unknown = codes " unknown\n"
 
 -- why line k ends the script
@@ -131,30 +146,16 @@ error_line k reason = codes "error line " ++ decimal k ++ reason_text reason
 
 -- A transcript of lines, the first of which has the number k: each writes what it may show, up to the first that isn't
 -- played, of which the reason is written. The status is 0, or 3 where there is such a line. What stands then is `end`.
-abbrev pub Transcript : ℕ → Scene → List (Result Line LineBad) → List ℕ → ℕ → Scene → Type 0
+abbrev pub Transcript : ℕ → Scene → List (Result Line Reason) → List ℕ → ℕ → Scene → Type 0
 Transcript k s [] out status end = (out ≡ []) × (status ≡ 0) × (end ≡ s)
 Transcript k s (r ∷ rs) out status end = MatchOption (stops s.world r)
     ((o : Option Shown) × (next : Scene) × (rest : List ℕ) × ShowsRead k s r o next × (out ≡ written o ++ rest) × Transcript (k + 1) next rs rest status end)
     (λ reason. (out ≡ error_line k reason) × (status ≡ 3) × (end ≡ s))
 
--- of a script on a pad of this id, under these limits
-abbrev pub TranscriptOf : Limits → Text → List ℕ → List ℕ → ℕ → Scene → Type 0
-TranscriptOf limits id script out status end = Transcript 1 (opening limits id) (reads_of script) out status end
+-- of a script on a pad of this id
+abbrev pub TranscriptOf : Text → List ℕ → List ℕ → ℕ → Scene → Type 0
+TranscriptOf id script out status end = Transcript 1 (opening id) (reads_of script) out status end
 
--- ---- its length
-
--- the most bytes that a script may have
-abbrev pub most_bytes : ℕ
-most_bytes = 1048576
-
--- what is written of a longer one
-abbrev pub too_long : List ℕ
-too_long = codes "error line 0 notbuilt\n"
-
-abbrev pub IsTranscriptIf : Bool → Text → List ℕ → List ℕ → ℕ → Type 0
-IsTranscriptIf true id script out status = (limits : Limits) × (end : Scene) × TranscriptOf limits id script out status end
-IsTranscriptIf false id script out status = (out ≡ too_long) × (status ≡ 12)
-
--- a script may write this, under some limits, and then ends with this status
+-- a script may write this, and then ends with this status
 abbrev pub IsTranscript : Text → List ℕ → List ℕ → ℕ → Type 0
-IsTranscript id script out status = IsTranscriptIf (nat_le (length script) most_bytes) id script out status
+IsTranscript id script out status = (end : Scene) × TranscriptOf id script out status end

@@ -9,13 +9,22 @@ use Rattle.ep_event.specs.declared.event.Event.{Event as Told}
 use Rattle.ep_event.specs.declared.shown.Shown.{Shown}
 use Rattle.ep_event.specs.declared.shown.Shown.TheVariants as shown
 use Rattle.ep_script.specs.declared.line.Line.{Line}
-use Rattle.ep_script.specs.declared.line.LineBad.{LineBad}
+use Rattle.ep_script.specs.Line.{line_of}
+use Rattle.ep_script.specs.declared.script.ScriptLine.{ScriptLine}
+use Rattle.ep_script.specs.declared.script.ScriptLine.TheVariants.{Text, Long}
 use Rattle.ep_world.specs.Events.{is_known}
 use Rattle.ep_world.specs.Standing.{IsRun, StandsFor}
-use Rattle.padd.specs.Play.{Scene, Happens, Shows, ShowsRead, line_stops, stops, unless, with_pair, written}
+use Rattle.padd.specs.Play.{Scene, Happens, Shows, ShowsRead, line_read, line_stops, stops, unless, with_pair, written}
+use Rattle.padd.specs.declared.reason.Reason.{Reason}
+use Rattle.padd.specs.declared.reason.Reason.TheVariants as reason
 use Rattle.padd.specs.declared.stage.Stage.{Stage}
 use Rattle.padd.specs.declared.stage.Stop.{Stop}
 use Rattle.padd.specs.declared.stage.Stop.TheVariants.{At, Failed}
+
+-- what a line is that was cut off a script
+abbrev pub cut_read : ScriptLine → Result Line Reason
+cut_read (Text bytes) = line_read (line_of bytes.items)
+cut_read Long = Err reason.Long
 
 module _ {D : Type 0} (told : D → Option Contents) (failures : D → ℕ) where
   -- the world and the pool in code stand for these, to which some events lead
@@ -43,7 +52,7 @@ module _ {D : Type 0} (told : D → Option Contents) (failures : D → ℕ) wher
   Plays k s l (Err Failed) new = Unit {0}
 
   -- and what it may show is written
-  abbrev pub PlaysLine : ℕ → Scene → Result Line LineBad → Result (String Global) Stop → Stage D → Type 0
+  abbrev pub PlaysLine : ℕ → Scene → Result Line Reason → Result (String Global) Stop → Stage D → Type 0
   PlaysLine k s r (Ok text) new =
       (stops s.world r ≡ None)
       × ((o : Option Shown) × (next : Scene) × ShowsRead k s r o next × (string_bytes text ≡ written o) × IsStage new next)

@@ -10,7 +10,6 @@ mod say;
 mod stage;
 mod standard;
 mod status;
-mod words;
 
 use run::run;
 use standard::{StdSink, StdSource};

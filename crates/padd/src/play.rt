@@ -1,30 +1,22 @@
 //! A script, played on a pad of its own.
 
 ghost use Rattle.std.specs.Prelude.{◌≡◌, ◌≢◌, ◌≤◌, ◌⊎◌, ◌↔◌, ◌∷◌, [], false, true, length, Contains, IfSome, IsSome, OnErr, OnOk, IsErrOf};
-ghost use Rattle.ep_outside.specs.Outside.{HasRisen, Takes, TakesPart};
-ghost use Rattle.ep_outside.specs.declared.limits.Limits.{Limits};
+ghost use Rattle.ep_outside.specs.Outside.{HasCause, HasRisen, IsAtEnd, Takes, TakesPart};
 ghost use Rattle.ep_units.specs.PadId.{has_group};
-ghost use Rattle.padd.specs.Ending.{EndsLines, code_of, world_of};
-ghost use Rattle.padd.specs.Play.{Scene, error_line, most_bytes, opening, reads_of};
+ghost use Rattle.padd.specs.Ending.{EndsScript, code_of, world_of};
+ghost use Rattle.padd.specs.Play.{Scene, error_line, opening};
 ghost use Rattle.padd.specs.Played.{IsStage};
-ghost use Rattle.padd.specs.Run.{IsEnd, IsMadeOf, IsRead, Writes, WritesPart};
+ghost use Rattle.padd.specs.Run.{IsEnd, IsMadeOf, Writes, WritesPart};
 
 use crate::reason::Reason;
-use crate::say::say;
 use crate::stage::{Stage, Stop};
 use crate::status::Status;
 use ep_disk_mem::MemDisk;
-use ep_outside::{Crash, Device, Disk, Failed, ReadBad, Sink, Source, read_all};
-use ep_script::cut_line;
+use ep_outside::{Crash, Device, Disk, Failed, Sink, Source};
+use ep_script::{Script, ScriptBad};
 use ep_units::{NoMemory, PadId};
 use ep_world::{World, WorldBad};
 use std::alloc::{AllocError, Global};
-
-/// The most bytes that a script may have.
-const MOST_BYTES: usize = 1_048_576;
-
-/// What is written of a longer one: reading by lines isn't built yet.
-const TOO_LONG: &str = "error line 0 notbuilt\n";
 
 /// How a script ended, and the world then, where it was played to its end.
 #[derive(Drop)]
@@ -36,8 +28,10 @@ pub struct Played {
 /// Why a script was not played as far as it goes.
 #[derive(Clone, Copy, Debug, PartialEq, Eq)]
 pub enum PlayBad {
+    /// The source failed.
+    SourceFault,
     /// The sink failed.
-    Fault,
+    SinkFault,
     /// Memory is wanting, or the world can't go on.
     Failed,
 }
@@ -77,12 +71,26 @@ impl From<WorldBad> for PlayBad {
 
 impl From<Failed> for PlayBad {
     ghost use Rattle.std.specs.Prelude.{◌≡◌};
-    ghost use Rattle.padd.specs.declared.play.PlayBad.TheVariants.{Fault};
+    ghost use Rattle.padd.specs.declared.play.PlayBad.TheVariants.{SinkFault};
 
-    ghost from_gives = { λ _ e. e ≡ Fault };
+    ghost from_gives = { λ _ e. e ≡ SinkFault };
 
     fn from(_error: Failed) -> PlayBad {
-        PlayBad::Fault
+        PlayBad::SinkFault
+    }
+}
+
+impl From<ScriptBad> for PlayBad {
+    ghost use Rattle.std.specs.Prelude.{◌≡◌};
+    ghost use Rattle.padd.specs.Stops.{bad_of_script};
+
+    ghost from_gives = { λ bad e. e ≡ bad_of_script bad };
+
+    fn from(error: ScriptBad) -> PlayBad {
+        match error {
+            ScriptBad::Fault => PlayBad::SourceFault,
+            ScriptBad::NoMemory => PlayBad::Failed,
+        }
     }
 }
 
@@ -90,7 +98,7 @@ impl From<Failed> for PlayBad {
 fn end<K: Sink>(alloc: Global, k: u64, reason: Reason, sink: &mut K) -> Result<(), PlayBad>
     ensures whole { OnOk result (Takes (K.held sink.old) (K.held sink.new) (error_line k reason)) }
     ensures part { OnErr result (TakesPart (K.held sink.old) (K.held sink.new) (error_line k reason)) }
-    ensures cause { IsErrOf result PlayBad.Fault → HasRisen (K.failures sink.old) (K.failures sink.new) }
+    ensures cause { IsErrOf result PlayBad.SinkFault → HasRisen (K.failures sink.old) (K.failures sink.new) }
     ensures later { K.failures sink.old ≤ K.failures sink.new }
     ensures steady { K.is_steady sink.new ≡ K.is_steady sink.old }
 {
@@ -99,58 +107,55 @@ fn end<K: Sink>(alloc: Global, k: u64, reason: Reason, sink: &mut K) -> Result<(
     Ok(())
 }
 
-/// Plays the lines of a script, and answers the world where all were played.
-fn play_lines<D: Crash + Drop, K: Sink>(
+/// Plays the lines that the source has left, and answers the world where all were played.
+fn play_lines<D: Crash + Drop, S: Source, K: Sink>(
     alloc: Global,
     mut stage: Stage<D>,
-    script: &[u8],
+    source: &mut S,
     sink: &mut K,
 ) -> Result<Option<World<D>>, PlayBad>
-    requires { length script.now ≤ most_bytes }
     ensures ends { (s : Scene) → IsStage D.told D.failures stage s
-        → EndsLines D.told D.failures s (reads_of script.now) (K.held sink.old) (K.held sink.new) result }
-    ensures cause { IsErrOf result PlayBad.Fault → HasRisen (K.failures sink.old) (K.failures sink.new) }
+        → EndsScript D.told D.failures s (S.left source.old) (K.held sink.old) (K.held sink.new) result }
+    ensures read { IfOk result (λ world. IsSome world → IsAtEnd (S.left source.new)) }
+    ensures source_fault { HasCause (S.failures source.old) (S.failures source.new) (S.is_steady source.old) (S.is_steady source.new) (IsErrOf result PlayBad.SourceFault) }
+    ensures sink_fault { IsErrOf result PlayBad.SinkFault → HasRisen (K.failures sink.old) (K.failures sink.new) }
     ensures later { K.failures sink.old ≤ K.failures sink.new }
     ensures steady { K.is_steady sink.new ≡ K.is_steady sink.old }
 {
-    let mut rest = script;
-    let mut k: u64 = 1;
-    'lines: while !rest.is_empty() {
-        let (line, behind) = cut_line(rest);
-        match stage.play_line(alloc, k, line) {
+    let mut script = Script::new(alloc);
+    for k in 1..u64::MAX {
+        let Some(line) = script.next_line(source)? else {
+            let Stage { world, pool: _ } = stage;
+            return Ok(Some(world));
+        };
+        match stage.play_cut(alloc, k, &line) {
             Ok(text) => sink.write(text.as_bytes())?,
-            Err(stop) => match stop {
-                Stop::At(reason) => {
-                    end(alloc, k, reason, sink)?;
-                    return Ok(None);
-                }
-                Stop::Failed => return Err(PlayBad::Failed),
-            },
+            Err(Stop::At(reason)) => {
+                end(alloc, k, reason, sink)?;
+                return Ok(None);
+            }
+            Err(Stop::Failed) => return Err(PlayBad::Failed),
         }
-        rest = behind;
-        k += 1;
     }
-    let Stage { world, pool: _ } = stage;
-    Ok(Some(world))
+    Err(PlayBad::Failed)
 }
 
-/// Plays a script on a disk in memory, which is empty and without faults.
-fn play_script<K: Sink>(
+/// Plays the script that the source has left on a disk in memory, which is empty and without faults.
+fn play_script<S: Source, K: Sink>(
     alloc: Global,
-    script: &[u8],
+    source: &mut S,
     sink: &mut K,
     id: PadId,
 ) -> Result<Option<World<MemDisk>>, PlayBad>
-    requires { length script.now ≤ most_bytes }
-    ensures ends { (limits : Limits) × EndsLines ⟦<MemDisk as Disk>⟧.told ⟦<MemDisk as Device>⟧.failures (opening limits id) (reads_of script.now)
-        (K.held sink.old) (K.held sink.new) result }
-    ensures cause { IsErrOf result PlayBad.Fault → HasRisen (K.failures sink.old) (K.failures sink.new) }
-    ensures later { K.failures sink.old ≤ K.failures sink.new }
+    ensures ends { EndsScript ⟦<MemDisk as Disk>⟧.told ⟦<MemDisk as Device>⟧.failures (opening id) (S.left source.old) (K.held sink.old) (K.held sink.new) result }
+    ensures read { IfOk result (λ world. IsSome world → IsAtEnd (S.left source.new)) }
+    ensures source_fault { HasCause (S.failures source.old) (S.failures source.new) (S.is_steady source.old) (S.is_steady source.new) (IsErrOf result PlayBad.SourceFault) }
+    ensures sink_fault { IsErrOf result PlayBad.SinkFault → HasRisen (K.failures sink.old) (K.failures sink.new) }
     ensures steady { K.is_steady sink.new ≡ K.is_steady sink.old }
 {
     let disk = MemDisk::new(alloc, Vec::new(alloc), Vec::new(alloc))?;
     let stage = Stage::new(alloc, disk, id)?;
-    play_lines(alloc, stage, script, sink)
+    play_lines(alloc, stage, source, sink)
 }
 
 /// What was played.
@@ -163,18 +168,19 @@ fn outcome(ended: Result<Option<World<MemDisk>>, PlayBad>) -> Played
             status: Status { code: 0 },
             world: Some(world),
         },
-        Ok(None) => without_world(Status { code: 3 }),
-        Err(PlayBad::Fault) => without_world(Status { code: 5 }),
-        Err(PlayBad::Failed) => without_world(Status { code: 7 }),
+        Ok(None) => without_world(3),
+        Err(PlayBad::SourceFault) => without_world(4),
+        Err(PlayBad::SinkFault) => without_world(5),
+        Err(PlayBad::Failed) => without_world(7),
     }
 }
 
-fn without_world(status: Status) -> Played
-    ensures status { result.status ≡ status }
+fn without_world(code: u8) -> Played
+    ensures status { result.status.code ≡ code }
     ensures world { result.world ≡ None }
 {
     Played {
-        status,
+        status: Status { code },
         world: None,
     }
 }
@@ -184,7 +190,7 @@ pub fn play<S: Source, K: Sink>(alloc: Global, source: &mut S, sink: &mut K, id:
     requires { has_group id ≡ false }
     // What is written is a transcript of the script, as far as it goes, and a beginning of one at any other status.
     ensures writes { IsEnd result.status.code → Writes id (S.left source.old) (K.held sink.old) (K.held sink.new) result.status.code }
-    ensures read { result.status.code ≡ 0 → IsRead (S.left source.new) }
+    ensures read { result.status.code ≡ 0 → IsAtEnd (S.left source.new) }
     ensures part { WritesPart id (S.left source.old) (K.held sink.old) (K.held sink.new) }
 
     // The world is there just where all of it was played; and of it the schedule theorem speaks.
@@ -195,14 +201,9 @@ pub fn play<S: Source, K: Sink>(alloc: Global, source: &mut S, sink: &mut K, id:
     // Each fault has its cause.
     ensures source_fault { result.status.code ≡ 4 → HasRisen (S.failures source.old) (S.failures source.new) }
     ensures sink_fault { result.status.code ≡ 5 → HasRisen (K.failures sink.old) (K.failures sink.new) }
-    ensures known { Contains (0 ∷ 3 ∷ 4 ∷ 5 ∷ 7 ∷ 12 ∷ []) result.status.code }
+    ensures known { Contains (0 ∷ 3 ∷ 4 ∷ 5 ∷ 7 ∷ []) result.status.code }
     ensures source_steady { S.is_steady source.new ≡ S.is_steady source.old }
     ensures sink_steady { K.is_steady sink.new ≡ K.is_steady sink.old }
 {
-    match read_all(alloc, source, MOST_BYTES) {
-        Ok(script) => outcome(play_script(alloc, &script, sink, id)),
-        Err(ReadBad::TooLong) => without_world(say(sink, TOO_LONG, 12)),
-        Err(ReadBad::Fault) => without_world(Status { code: 4 }),
-        Err(ReadBad::NoMemory) => without_world(Status { code: 7 }),
-    }
+    outcome(play_script(alloc, source, sink, id))
 }

@@ -13,6 +13,8 @@ pub enum Reason {
     Utf8,
     /// It is no line of the grammar.
     Syntax,
+    /// It is longer than a line may be, or ends behind the last byte of a script.
+    Long,
     /// It names nobody of the kind that it needs.
     Unknown,
 }
@@ -25,6 +27,7 @@ impl Reason {
         match self {
             Reason::Utf8 => format!(in alloc; "error line {k} utf8\n"),
             Reason::Syntax => format!(in alloc; "error line {k} syntax\n"),
+            Reason::Long => format!(in alloc; "error line {k} long\n"),
             Reason::Unknown => format!(in alloc; "error line {k} unknown\n"),
         }
     }

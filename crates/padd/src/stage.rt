@@ -1,7 +1,6 @@
 //! A script that is being played, line by line.
 
 ghost use Rattle.std.specs.Prelude.{◌≡◌, [], IfOk};
-ghost use Rattle.ep_outside.specs.declared.limits.Limits.{Limits};
 ghost use Rattle.ep_pad_file.specs.Standing.{Holds};
 ghost use Rattle.ep_csread.specs.Reading.{reading};
 ghost use Rattle.ep_script.specs.Line.{line_of};
@@ -9,7 +8,7 @@ ghost use Rattle.ep_script.specs.Seen.{AreTexts};
 ghost use Rattle.ep_script.specs.Texts.{IsText};
 ghost use Rattle.ep_event.specs.declared.event.Event.TheVariants as event;
 ghost use Rattle.padd.specs.Play.{Scene, line_read, opening};
-ghost use Rattle.padd.specs.Played.{IsStage, Plays, PlaysLine, Puts, Steps};
+ghost use Rattle.padd.specs.Played.{IsStage, Plays, PlaysLine, Puts, Steps, cut_read};
 
 use crate::reason::Reason;
 use ep_attr::Attr;
@@ -19,7 +18,7 @@ use ep_event::{Event, Shown};
 use ep_outside::{Crash, Limits};
 use ep_pool::Pool;
 use ep_print::print_shown;
-use ep_script::{Line, LineBad, read_line};
+use ep_script::{Line, LineBad, ScriptLine, read_line};
 use ep_units::{NoMemory, PadId, Units};
 use ep_world::{World, WorldBad};
 use std::alloc::Global;
@@ -97,15 +96,25 @@ impl<D: Crash> Stage<D> {
     pub fn new(alloc: Global, disk: D, id: PadId) -> Result<Stage<D>, WorldBad>
     where
         D: Drop,
-        ensures { Holds (D.told disk) [] → IfOk result (λ stage. (limits : Limits) × IsStage D.told D.failures stage (opening limits id)) }
+        ensures { Holds (D.told disk) [] → IfOk result (λ stage. IsStage D.told D.failures stage (opening id)) }
     {
         let world = World::new(alloc, disk, LIMITS, id)?;
         let pool = Pool::new(alloc);
         Ok(Stage { world, pool })
     }
 
-    /// Plays the bytes of line k, at the moment k, and answers what it writes.
-    pub fn play_line(&mut self, alloc: Global, k: u64, bytes: &[u8]) -> Result<String, Stop>
+    /// Plays line k, at the moment k, and answers what it writes.
+    pub fn play_cut(&mut self, alloc: Global, k: u64, line: &ScriptLine) -> Result<String, Stop>
+        ensures { (s : Scene) → IsStage D.told D.failures self.old s → PlaysLine D.told D.failures k s (cut_read line.now) result self.new }
+    {
+        match line {
+            ScriptLine::Text(bytes) => self.play_line(alloc, k, bytes),
+            ScriptLine::Long => Err(Stop::At(Reason::Long)),
+        }
+    }
+
+    /// Plays the bytes of line k.
+    fn play_line(&mut self, alloc: Global, k: u64, bytes: &[u8]) -> Result<String, Stop>
         ensures { (s : Scene) → IsStage D.told D.failures self.old s → PlaysLine D.told D.failures k s (line_read (line_of bytes.now)) result self.new }
     {
         let line = read_line(alloc, bytes)?;

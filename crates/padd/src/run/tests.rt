@@ -234,11 +234,12 @@ fn words(rt: HostRuntime) -> Result<(), Fail> {
 #[test]
 fn one_byte_too_many_is_refused(rt: HostRuntime) -> Result<(), Fail> {
     for (bytes, output, code) in [
-        (1_048_576, "", 0),
-        (1_048_577, "error line 0 notbuilt\n", 12),
+        (1_048_576, "head gone\n", 0),
+        (1_048_577, "error line 1 long\n", 3),
     ] {
-        let comment = vec![in rt.alloc(); b'#'; bytes]?;
-        let outcome = play_script(rt.alloc(), &comment)?;
+        let mut script = vec![in rt.alloc(); b'#'; bytes]?;
+        script.extend_from_slice(b"\nhead\n")?;
+        let outcome = play_script(rt.alloc(), &script)?;
         assert_eq!(rt; outcome.output.as_str(), output);
         assert_eq!(rt; outcome.code, code);
     }
@@ -249,7 +250,8 @@ fn one_byte_too_many_is_refused(rt: HostRuntime) -> Result<(), Fail> {
 fn fault_leaves_a_beginning(rt: HostRuntime) -> Result<(), Fail> {
     for (read, write, output, code) in [
         (Some(1), None, "", 4),
-        (Some(2), Some(1), "", 4),
+        (Some(6), Some(1), "create rev 0 ", 5),
+        (Some(6), None, "create rev 0 Z:1>5+5$hello\n", 4),
         (None, Some(1), "create rev 0 ", 5),
         (None, Some(2), "create rev 0 Z:1>5+5$hello\nlogin A 1", 5),
     ] {

@@ -14,7 +14,7 @@ nothing-left (x ∷ xs) h = absurd (omega arith)
 pub loop-now-init : goal.loop-now-init
 loop-now-init g c = (
   refl,
-  λ h. let f = c.in_ok-world.ensures h in (f.0, record { world = start f.0 c.args.id; kepts = nobodies; leads = (refl, refl); run = begins f.0 c.args.id; stands = f.1 }),
+  λ h. record { world = start c.args.limits c.args.id; kepts = nobodies; leads = (refl, refl); run = begins c.args.limits c.args.id; stands = c.in_ok-world.ensures h },
 )
 
 pub loop-now-preserved : goal.loop-now-preserved
@@ -23,7 +23,7 @@ loop-now-preserved g c =
     let x : ℕ × Event = (c.in-Some.now, c.in-Some.event) in
     let steps : into_iter_items at.now-iterator ≡ x ∷ into_iter_items c.next.new.self = c.in-Some.ensures.steps.0 in (
       append_assoc at.yielded (x ∷ []) _ ∙ rw (← steps) at.invariant.0,
-      λ h. let s = at.invariant.1 h in (s.0, c.in_ok-play.ensures (start s.0 c.args.id) at.yielded s.1),
+      λ h. c.in_ok-play.ensures (start c.args.limits c.args.id) at.yielded (at.invariant.1 h),
     )
 
 pub returns : goal.returns
@@ -33,4 +33,4 @@ returns g c = λ h.
     let empty : into_iter_items at.now-iterator ≡ [] = nothing-left _ (sym at.now-iterator.rest.ok.0 ∙ none.0) in
     let all : at.yielded ≡ c.args.events.items = sym (append-nil at.yielded) ∙ rw empty at at.invariant.0 ∙ c.into_iter-now-iterator.ensures.into_iter_gives.0 in
     let s = at.invariant.1 h in
-    (s.0, (s.1.world, (s.1.kepts, (subst (λ es. Lead (start s.0 c.args.id) nobodies es s.1.world s.1.kepts) all s.1.leads, s.1.stands, scheduled s.1.world s.1.kepts s.1.run))))
+    (s.world, (s.kepts, (subst (λ es. Lead (start c.args.limits c.args.id) nobodies es s.world s.kepts) all s.leads, s.stands, scheduled s.world s.kepts s.run)))

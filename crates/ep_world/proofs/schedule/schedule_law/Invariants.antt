@@ -1,6 +1,5 @@
 use Rattle.std.proofs.Common.{◌≡◌, ◌++◌, []}
 use Rattle.std.specs.Vec.Iter.{into_iter_items}
-use Rattle.ep_outside.specs.declared.limits.Limits.{Limits}
 use Rattle.ep_schedule.specs.World.{start}
 use Rattle.ep_pad_file.specs.Standing.{Holds}
 use Rattle.ep_world.specs.Leading.{Stays}
@@ -9,4 +8,4 @@ use Rattle.ep_world.proofs.schedule.schedule_law.Given as goal
 abbrev pub invariant-loop-now : goal.invariant-loop-now
 invariant-loop-now g l =
     (l.yielded ++ into_iter_items l.now-iterator ≡ into_iter_items l.initial.now-iterator)
-    × (Holds (g.D.Disk.told l.fn.disk) [] → (n : Limits) × Stays g.D.Disk.told g.D.Device.failures l.world (start n l.fn.id) l.yielded)
+    × (Holds (g.D.Disk.told l.fn.disk) [] → Stays g.D.Disk.told g.D.Device.failures l.world (start l.fn.limits l.fn.id) l.yielded)
