@@ -1,0 +1,15 @@
+pub mod Again
+pub mod Commits
+pub mod Get
+pub mod Lists
+pub mod Make
+pub mod Prefixes
+pub mod Put
+pub mod Puts
+pub mod Removes
+pub mod Rows
+pub mod Statements
+pub mod Texts
+pub mod With
+pub mod Without
+pub mod Listings

@@ -1,0 +1,26 @@
+use Rattle.std.proofs.Common.{[], ◌∷◌, List, IfOk, IfErr, Vec, Global}
+use Rattle.sqlite.specs.declared.types.Value.TheVariants as value
+use Rattle.sqlite.specs.declared.rows.Row.{Row as SqlRow}
+use Rattle.sqlite_value.specs.Order.{Row}
+use Rattle.sqlite.specs.Held.{state}
+use Rattle.sqlite.specs.State.{FailsToQuery, Shown}
+use Rattle.ep_keep_sql.specs.Told.{ShowsListed}
+use Rattle.ep_keep_sql.proofs.Listings.{from_all, if_ok}
+use Rattle.ep_keep_sql.proofs.Statements.{rows_rest}
+use Rattle.ep_keep_sql.proofs.Texts.{from_text, from_plain}
+use Rattle.ep_keep_sql.proofs.table.rows_from.Goals as goal
+
+pub returns-clause-rows : goal.returns-clause-rows
+returns-clause-rows g c = λ clean m holds.
+    let old = state g.S.Store c.args.conn.now in
+    let new = state g.S.Store c.query_all.new.self in
+    let all : IfOk c.query_all.result (λ rows. Shown from_text (value.Text c.args.prefix.now ∷ []) old new rows.items) = rw c.params-to_sql.ensures at (c.query_all.ensures.ok clean) in
+    if_ok (λ rows. Shown from_text (value.Text c.args.prefix.now ∷ []) old new rows.items) (λ rows. ShowsListed m c.args.prefix.now rows.items) c.query_all.result (λ rows shown. from_all old new c.args.prefix.now m rows.items holds shown) all
+
+pub returns-clause-same : goal.returns-clause-same
+returns-clause-same g c = λ m holds settled clean open_now.
+    let old = state g.S.Store c.args.conn.now in
+    let new = state g.S.Store c.query_all.new.self in
+    let ok : IfOk c.query_all.result (λ rows. Shown from_text (value.Text c.args.prefix.now ∷ []) old new rows.items) = rw c.params-to_sql.ensures at (c.query_all.ensures.ok clean) in
+    let err : IfErr c.query_all.result (FailsToQuery from_text (value.Text c.args.prefix.now ∷ []) old new) = rw c.params-to_sql.ensures at (c.query_all.ensures.err clean) in
+    rows_rest (λ rows. rows.items) from_text from_plain old new (value.Text c.args.prefix.now ∷ []) c.query_all.result holds.schema settled ok err clean open_now
