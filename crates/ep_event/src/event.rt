@@ -8,10 +8,21 @@ use ep_units::Units;
 /// A local edit of a client's view. Places and lengths count UTF-16 units.
 #[derive(Drop)]
 pub enum Local {
-    Insert { at: u32, text: Units },
-    Delete { at: u32, units: u32 },
+    Insert {
+        at: u32,
+        text: Units,
+    },
+    Delete {
+        at: u32,
+        units: u32,
+    },
     /// Sets one attribute on so many units; an empty value removes it.
-    Format { at: u32, units: u32, key: Units, value: Units },
+    Format {
+        at: u32,
+        units: u32,
+        key: Units,
+        value: Units,
+    },
 }
 
 /// A stop within a take: after so many device calls, with what the crash leaves of the file.
@@ -26,33 +37,65 @@ pub struct StopAt {
 #[derive(Drop)]
 pub enum Event {
     /// The server makes the pad with this text.
-    Create { text: Units },
+    Create {
+        text: Units,
+    },
     /// The server puts this text in the place of the pad's.
-    SetText { text: Units },
+    SetText {
+        text: Units,
+    },
     /// The server deletes the pad.
     Delete,
     /// A client comes, or starts anew.
-    Login { name: Units },
+    Login {
+        name: Units,
+    },
     /// A guest comes, or starts anew: a connection that sends what it likes, and hears nothing.
-    Guest { name: Units, read_only: bool },
+    Guest {
+        name: Units,
+        read_only: bool,
+    },
     /// A client edits what it sees.
-    Edit { name: Units, edit: Local },
+    Edit {
+        name: Units,
+        edit: Local,
+    },
     /// A client sends its local change.
-    Submit { name: Units },
+    Submit {
+        name: Units,
+    },
     /// A guest sends a change of a base, or a text that spells none.
-    Inject { name: Units, base: u64, change: Result<Change, ReadBad> },
+    Inject {
+        name: Units,
+        base: u64,
+        change: Result<Change, ReadBad>,
+    },
     /// The server takes the first message of a name.
-    Take { name: Units },
+    Take {
+        name: Units,
+    },
     /// The server takes the first message of the connection that a client had before its last resumption.
-    Late { name: Units },
+    Late {
+        name: Units,
+    },
     /// The server sends a client the next that it is to be told.
-    Push { name: Units },
+    Push {
+        name: Units,
+    },
     /// A client hears the first that was sent to it.
-    Hear { name: Units },
+    Hear {
+        name: Units,
+    },
     /// A client's connection is lost.
-    Lose { name: Units },
+    Lose {
+        name: Units,
+    },
     /// A client comes back, in a new session.
-    Resume { name: Units },
+    Resume {
+        name: Units,
+    },
     /// The server crashes, between two calls or within a take, and starts again.
-    Stop { at: Option<StopAt> },
+    Stop {
+        at: Option<StopAt>,
+    },
 }

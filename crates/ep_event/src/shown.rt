@@ -73,45 +73,126 @@ pub enum Reason {
 #[derive(Drop)]
 pub enum Shown {
     /// The pad was made by this change of the empty document.
-    Created { change: Change },
+    Created {
+        change: Change,
+    },
     /// The pad's text was set; `fixed` says that the newline's revision stands behind.
-    Set { rev: u64, fixed: bool, change: Change },
+    Set {
+        rev: u64,
+        fixed: bool,
+        change: Change,
+    },
     /// A client, a guest or a reader has a session, and the head.
-    Entered { verb: Verb, name: Units, session: Session, rev: u64 },
+    Entered {
+        verb: Verb,
+        name: Units,
+        session: Session,
+        rev: u64,
+    },
     /// What was asked for is done.
-    Done { verb: Verb, name: Option<Units> },
+    Done {
+        verb: Verb,
+        name: Option<Units>,
+    },
     /// There was nothing to do.
-    Nothing { verb: Verb, name: Units },
-    Refused { verb: Verb, name: Option<Units>, why: Reason },
+    Nothing {
+        verb: Verb,
+        name: Units,
+    },
+    Refused {
+        verb: Verb,
+        name: Option<Units>,
+        why: Reason,
+    },
     /// The number that a pair has in the script's pool.
-    Attr { number: u64 },
-    Submitted { name: Units, base: u64, change: Change },
+    Attr {
+        number: u64,
+    },
+    Submitted {
+        name: Units,
+        base: u64,
+        change: Change,
+    },
     /// A message was taken and made this revision.
-    Taken { verb: Verb, name: Units, rev: u64, fixed: bool, change: Change },
+    Taken {
+        verb: Verb,
+        name: Units,
+        rev: u64,
+        fixed: bool,
+        change: Change,
+    },
     /// An edit has become nothing: it was taken so, or its client is told or hears it.
-    Noted { verb: Verb, name: Units, rev: u64 },
-    Pushed { name: Units, rev: u64 },
+    Noted {
+        verb: Verb,
+        name: Units,
+        rev: u64,
+    },
+    Pushed {
+        name: Units,
+        rev: u64,
+    },
     /// A client hears its own change as committed.
-    Committed { name: Units, rev: u64 },
+    Committed {
+        name: Units,
+        rev: u64,
+    },
     /// A client hears a revision of another's.
-    Heard { name: Units, rev: u64 },
+    Heard {
+        name: Units,
+        rev: u64,
+    },
     /// The closing was sent, or is heard.
-    Closed { verb: Verb, name: Units, word: Ended },
-    Resumed { name: Units, session: Session, head: u64 },
+    Closed {
+        verb: Verb,
+        name: Units,
+        word: Ended,
+    },
+    Resumed {
+        name: Units,
+        session: Session,
+        head: u64,
+    },
     /// The number of the opening after a crash, and the head where the pad is there.
-    Crashed { epoch: u64, head: Option<u64> },
+    Crashed {
+        epoch: u64,
+        head: Option<u64>,
+    },
     /// What a client sees.
-    View { name: Units, rev: u64, state: State, doc: Doc },
-    Head { rev: u64, doc: Doc },
+    View {
+        name: Units,
+        rev: u64,
+        state: State,
+        doc: Doc,
+    },
+    Head {
+        rev: u64,
+        doc: Doc,
+    },
     /// The revision that was asked for.
-    Text { rev: u64, doc: Doc },
+    Text {
+        rev: u64,
+        doc: Doc,
+    },
     /// There is no pad.
-    Gone { verb: Verb },
+    Gone {
+        verb: Verb,
+    },
     /// There is no pad, and no such revision of it.
-    TextGone { rev: u64 },
-    NoRev { rev: u64, head: u64 },
+    TextGone {
+        rev: u64,
+    },
+    NoRev {
+        rev: u64,
+        head: u64,
+    },
     /// The attributes of the head.
-    HeadMarks { rev: u64, doc: Doc },
+    HeadMarks {
+        rev: u64,
+        doc: Doc,
+    },
     /// The attributes of what a client sees.
-    ViewMarks { name: Units, doc: Doc },
+    ViewMarks {
+        name: Units,
+        doc: Doc,
+    },
 }

@@ -52,20 +52,24 @@ module _ {D : Type 0} (told_by : D → Option Contents) (failures : D → ℕ) w
 
       plain : (b : PadBad) → (outcome pad entry ≡ Refuses b) × IsAt told_by failures new.machine pad → come (Ok (pad_refuses v n b))
       plain b h =
-          let l = f.leaves b h.0 in
-          (f.known, f.text,
-          IsEvent true (sym (f.shown b h.0))
-          (subst (λ y. StandsFor told_by failures new y (kept_happened w ks (event_at w now true e))) (sym l.0)
-          (subst (StandsFor told_by failures new x) (sym l.1) (stands h.1))))
+          let l = f.leaves b h.0 in (
+            f.known,
+            f.text,
+            IsEvent true (sym (f.shown b h.0))
+                (subst (λ y. StandsFor told_by failures new y (kept_happened w ks (event_at w now true e))) (sym l.0)
+                (subst (StandsFor told_by failures new x) (sym l.1) (stands h.1))),
+          )
 
       go : (b : PadBad) → IsAnswered told_by failures old.machine pad entry (Err b) new.machine → come (shown_or_failed v n b)
       go (bad.Store k) a = tt
       go bad.NoMemory a = tt
-      go (bad.JournalFull k) a =
-          (f.known, f.text,
-          HasNoRoom k (f.room k)
-          (subst (λ y. StandsFor told_by failures new y (kept_happened w ks (overfull_at e))) (sym f.full.0)
-          (subst (StandsFor told_by failures new x) (sym f.full.1) (stands a.0))))
+      go (bad.JournalFull k) a = (
+        f.known,
+        f.text,
+        HasNoRoom k (f.room k)
+            (subst (λ y. StandsFor told_by failures new y (kept_happened w ks (overfull_at e))) (sym f.full.0)
+            (subst (StandsFor told_by failures new x) (sym f.full.1) (stands a.0))),
+      )
       go (bad.Dead why) a = plain (bad.Dead why) a
       go (bad.Denied k) a = plain (bad.Denied k) a
       go (bad.Full k) a = plain (bad.Full k) a
@@ -114,12 +118,14 @@ module _ {D : Type 0} (told_by : D → Option Contents) (failures : D → ℕ) w
       → Comes told_by failures w ks now (told.Create text) new (Ok (shown.Created c))
   created old new w ks now text a c q t s x i e =
       let u = unless-answers (create_fault w.pad text) _ a x.0 in
-      let m = subst (λ o. IsAt told_by failures new.machine (pad_after w.pad o)) u.1 x.1 in
-      (refl, t,
-      IsEvent true (ap (λ y. shown.Created y) q ∙ ap (shows_created (first_rev now text)) (sym u.0))
-      (subst (λ y. StandsFor told_by failures new y ks)
-      (sym (ap (λ v. if v then pad_if w (create w.pad now text) (create_fault w.pad text) else w) t ∙ ap (pad_if w (create w.pad now text)) u.0))
-      (with-pad old new w ks (create w.pad now text) s m i e)))
+      let m = subst (λ o. IsAt told_by failures new.machine (pad_after w.pad o)) u.1 x.1 in (
+        refl,
+        t,
+        IsEvent true (ap (λ y. shown.Created y) q ∙ ap (shows_created (first_rev now text)) (sym u.0))
+            (subst (λ y. StandsFor told_by failures new y ks)
+            (sym (ap (λ v. if v then pad_if w (create w.pad now text) (create_fault w.pad text) else w) t ∙ ap (pad_if w (create w.pad now text)) u.0))
+            (with-pad old new w ks (create w.pad now text) s m i e)),
+      )
 
   -- ---- a text that is set
 
@@ -150,12 +156,14 @@ module _ {D : Type 0} (told_by : D → Option Contents) (failures : D → ℕ) w
   text-set old new w ks now text c t s x i e =
       let u = unless-answers (set_fault w.pad text) _ (CommitAnswer c) x.0 in
       let m = subst (λ o. IsAt told_by failures new.machine (pad_after w.pad o)) u.1 x.1 in
-      let q : revised w.pad (set_head w.pad text) ≡ c = same (sym (ap answer_of u.1) ∙ x.0) in
-      (refl, t,
-      IsEvent true (ap (λ d. shows_set d None) (sym q) ∙ ap (shows_set (revised w.pad (set_head w.pad text))) (sym u.0))
-      (subst (λ y. StandsFor told_by failures new y ks)
-      (sym (ap (λ v. if v then pad_if w (set_text w.pad now text) (set_fault w.pad text) else w) t ∙ ap (pad_if w (set_text w.pad now text)) u.0))
-      (with-pad old new w ks (set_text w.pad now text) s m i e)))
+      let q : revised w.pad (set_head w.pad text) ≡ c = same (sym (ap answer_of u.1) ∙ x.0) in (
+        refl,
+        t,
+        IsEvent true (ap (λ d. shows_set d None) (sym q) ∙ ap (shows_set (revised w.pad (set_head w.pad text))) (sym u.0))
+            (subst (λ y. StandsFor told_by failures new y ks)
+            (sym (ap (λ v. if v then pad_if w (set_text w.pad now text) (set_fault w.pad text) else w) t ∙ ap (pad_if w (set_text w.pad now text)) u.0))
+            (with-pad old new w ks (set_text w.pad now text) s m i e)),
+      )
     where
       same : Some (CommitAnswer (revised w.pad (set_head w.pad text))) ≡ Some (CommitAnswer c) → revised w.pad (set_head w.pad text) ≡ c
       same h = cc
@@ -187,7 +195,9 @@ module _ {D : Type 0} (told_by : D → Option Contents) (failures : D → ℕ) w
       → Comes told_by failures w ks now told.Delete new (Ok (shows_deleted None))
   deleted old new w ks now a s x i e =
       let u = unless-answers (gone_fault w.pad) _ a x.0 in
-      let m = subst (λ o. IsAt told_by failures new.machine (pad_after w.pad o)) u.1 x.1 in
-      (refl, refl,
-      IsEvent true (ap shows_deleted (sym u.0))
-      (subst (λ y. StandsFor told_by failures new y ks) (sym (ap (pad_if w (delete w.pad)) u.0)) (with-pad old new w ks (delete w.pad) s m i e)))
+      let m = subst (λ o. IsAt told_by failures new.machine (pad_after w.pad o)) u.1 x.1 in (
+        refl,
+        refl,
+        IsEvent true (ap shows_deleted (sym u.0))
+            (subst (λ y. StandsFor told_by failures new y ks) (sym (ap (pad_if w (delete w.pad)) u.0)) (with-pad old new w ks (delete w.pad) s m i e)),
+      )

@@ -149,9 +149,11 @@ module _ (st : MachineState) (s : Session) (now : ℕ) (msg : Message) where
       go (Lacks r t) kept = (false, settled-then kept st new t ∙ settled-whole kept st (k.whole o))
       go (Fails count q adds r h t) false = (false, settled-then false (closed q st) new t)
       go (Fails count q adds r h t) true =
-          let x = turn-adds q i adds in
-          (true, settled-then true (closed q st) new t ∙ ap (next_pad st.pad) x.1
-          ∙ (accept-recorded st.pad s now msg.base msg.change k.kept.sound x.0 i).1 ∙ taken-off i x.0)
+          let x = turn-adds q i adds in (
+            true,
+            settled-then true (closed q st) new t ∙ ap (next_pad st.pad) x.1
+                ∙ (accept-recorded st.pad s now msg.base msg.change k.kept.sound x.0 i).1 ∙ taken-off i x.0,
+          )
 
 -- the change of a message whose text spells one
 pub spelled : (msg : Message) (x : Sent) (c : Change) → x ≡ sent_of msg → x.change ≡ Ok c → msg.change ≡ c
@@ -265,13 +267,16 @@ module _ {D : Type 0} (told_by : D → Option Contents) (failures : D → ℕ) w
 
   pub reopens : (new : Held D) (st mid : MachineState) → IsKeptState st → IsWoken (stopped st) mid → Stands told_by failures new mid → Reopens told_by failures st new
   reopens new st mid k (Was on is) s = absurd cc
-  reopens new st mid k (Opened kept off fits t) s = (kept, record {
-    state = mid;
-    stands = s;
-    kept = subst IsKeptState (sym t.0) (is-kept kept);
-    is_open = ap (λ (x : MachineState). x.is_open) t.0;
-    pad = ap (λ (x : MachineState). x.pad) t.0 ∙ same kept;
-  })
+  reopens new st mid k (Opened kept off fits t) s = (
+    kept,
+    record {
+      state = mid;
+      stands = s;
+      kept = subst IsKeptState (sym t.0) (is-kept kept);
+      is_open = ap (λ (x : MachineState). x.is_open) t.0;
+      pad = ap (λ (x : MachineState). x.pad) t.0 ∙ same kept;
+    },
+  )
     where
       same : (kept : Bool) → reopened (settled kept (stopped st)).pad ≡ reopened (settled kept st).pad
       same true = refl
@@ -295,10 +300,14 @@ module _ {D : Type 0} (told_by : D → Option Contents) (failures : D → ℕ) w
       → Makes told_by failures old (Accept s msg.base msg.change now) reply new → BreaksOff told_by failures pad now (Some (s, msg)) new
   breaks old new pad s now msg reply i a makes =
       let n = makes a.state a.kept a.stands in
-      let step = subst (λ b. IsStepAs b size a.state (Accept s msg.base msg.change now) reply n.0) a.is_open n.1 in
-      (n.0, n.2, step-kept size a.state (Accept s msg.base msg.change now) reply n.0 a.kept n.1, λ kept.
-      let x = step-settles a.state s now msg reply n.0 i a.kept a.is_open step kept in
-      (x.0, x.1 ∙ ap (λ p. broken_off p s now msg x.0) a.pad))
+      let step = subst (λ b. IsStepAs b size a.state (Accept s msg.base msg.change now) reply n.0) a.is_open n.1 in (
+        n.0,
+        n.2,
+        step-kept size a.state (Accept s msg.base msg.change now) reply n.0 a.kept n.1,
+        λ kept.
+            let x = step-settles a.state s now msg reply n.0 i a.kept a.is_open step kept in
+            (x.0, x.1 ∙ ap (λ p. broken_off p s now msg x.0) a.pad),
+      )
 
   pub breaks-first : (old new : Held D) (pad : PadState) (now : ℕ) (message : Option (Session × Message)) (first : Option (Session × Sent)) (s : Session) (x : Sent) (c : Change) (reply : Reply)
       → first ≡ option_map taken_of message → first ≡ Some (s, x) → x.change ≡ Ok c → IsNormal c → IsAt told_by failures old pad
@@ -431,14 +440,17 @@ module _ {D : Type 0} (told_by : D → Option Contents) (failures : D → ℕ) w
       known (Named m) e = refl
 
       go : (r : Result Shown WorldBad) → IsOpening (reopened v.pad) new.machine r → Comes told_by failures w ks now (told.Stop (Some at)) new r
-      go (Ok y) h =
-          (known (w.actors at.name) is, refl,
-          IsEvent b.0 h.0 (crashed-stands old new w v ks s h.1 is-v.id is-v.actors i (cut-after old.actors slots new.actors at.name finds.0 finds.1 finds.2 one.cut finds.4 cut)))
+      go (Ok y) h = (
+        known (w.actors at.name) is,
+        refl,
+        IsEvent b.0 h.0 (crashed-stands old new w v ks s h.1 is-v.id is-v.actors i (cut-after old.actors slots new.actors at.name finds.0 finds.1 finds.2 one.cut finds.4 cut)),
+      )
       go (Err f) h = failed-comes w ks now (told.Stop (Some at)) new f h
 
   -- nobody has the name
   pub stop-unknown : (old new : World D) (w : WorldState) (ks : Kepts) (now : ℕ) (at : StopAt) → StandsFor told_by failures old w ks → found old.actors at.name ≡ None
       → new.machine ≡ old.machine → new.id ≡ old.id → IsSame old.actors new.actors → Comes told_by failures w ks now (told.Stop (Some at)) new (Err world_bad.Unknown)
-  stop-unknown old new w ks now at s none m i same =
-      (ap (λ z. not (is_nobody z)) (is-nobody (w.actors at.name) (ks at.name) (sym (s.actors at.name) ∙ none)),
-      same-stands told_by failures old new w ks s (subst (λ y. IsAt told_by failures y w.pad) (sym m) s.machine) i same)
+  stop-unknown old new w ks now at s none m i same = (
+    ap (λ z. not (is_nobody z)) (is-nobody (w.actors at.name) (ks at.name) (sym (s.actors at.name) ∙ none)),
+    same-stands told_by failures old new w ks s (subst (λ y. IsAt told_by failures y w.pad) (sym m) s.machine) i same,
+  )

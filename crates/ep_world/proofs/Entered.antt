@@ -148,17 +148,19 @@ module _ {D : Type 0} (told_by : D → Option Contents) (failures : D → ℕ) w
       let m = subst (IsAt told_by failures new.machine) u.pad a.1 in
       let k = kept_started (head_doc (newest there)) (head (newest there)) (next_session there) in
       let is : Some (actor.Named (member_of (new_member there (next_session there)) k)) ≡ Some (actor.Named (started_member x)) =
-          ap (λ (y : AWelcome). Some (actor.Named (record { client = kept_started y.doc y.rev y.session; birth = y.birth; conn = kept_new y.session y.rev; earlier = None }))) (sym q) in
-      (not-test (is_guest (w.actors n)) i, refl,
-      IsEvent true
-      (ap (λ y. shown.Entered verb.Login n y x.rev) session ∙ ap (shown.Entered verb.Login n (next_session there)) rev ∙ ap (shows_entered verb.Login n there) (sym u.free))
-      (subst (λ y. StandsFor told_by failures new y (kept_happens w ks (AskedLogin now n))) (sym (not-guest (w.actors n) i w now n None u.free))
-      (subst (StandsFor told_by failures new (login_if w now n None)) (sym (not-guest-kept (w.actors n) i w now ks n None u.free))
-      (record {
-        machine = m;
-        id = j ∙ s.id;
-        actors = put-actors old.actors new.actors w ks n (Named (new_member there (next_session there))) k (actor.Named (started_member x)) (λ r e. s.actors r) p is;
-      }))))
+      ap (λ (y : AWelcome). Some (actor.Named (record { client = kept_started y.doc y.rev y.session; birth = y.birth; conn = kept_new y.session y.rev; earlier = None }))) (sym q) in (
+        not-test (is_guest (w.actors n)) i,
+        refl,
+        IsEvent true
+            (ap (λ y. shown.Entered verb.Login n y x.rev) session ∙ ap (shown.Entered verb.Login n (next_session there)) rev ∙ ap (shows_entered verb.Login n there) (sym u.free))
+            (subst (λ y. StandsFor told_by failures new y (kept_happens w ks (AskedLogin now n))) (sym (not-guest (w.actors n) i w now n None u.free))
+            (subst (StandsFor told_by failures new (login_if w now n None)) (sym (not-guest-kept (w.actors n) i w now ks n None u.free))
+            (record {
+              machine = m;
+              id = j ∙ s.id;
+              actors = put-actors old.actors new.actors w ks n (Named (new_member there (next_session there))) k (actor.Named (started_member x)) (λ r e. s.actors r) p is;
+            }))),
+      )
     where
       same : LoginAnswer (welcome_of x) ≡ LoginAnswer (welcome (opened w.pad now) (grant_of w n false)) → welcome_of x ≡ welcome (opened w.pad now) (grant_of w n false)
       same e = cc
@@ -199,16 +201,18 @@ module _ {D : Type 0} (told_by : D → Option Contents) (failures : D → ℕ) w
       let rev = ap (λ (y : AWelcome). y.rev) q in
       let m = subst (IsAt told_by failures new.machine) u.pad a.1 in
       let is : Some (actor.Guest (kept_new (next_session there) (head (newest there)))) ≡ Some (actor.Guest (kept_new x.session x.rev)) =
-          ap (λ (y : AWelcome). Some (actor.Guest (kept_new y.session y.rev))) (sym q) in
-      (not-test (is_client (w.actors n)) i, refl,
-      IsEvent true
-      (ap (λ y. shown.Entered (visit_verb r) n y x.rev) session ∙ ap (shown.Entered (visit_verb r) n (next_session there)) rev ∙ ap (shows_entered (visit_verb r) n there) (sym u.free))
-      (subst (λ y. StandsFor told_by failures new y ks) (sym (not-client (w.actors n) i w now n r None u.free))
-      (record {
-        machine = m;
-        id = j ∙ s.id;
-        actors = put-actors-kept old.actors new.actors w ks n (Guest (new_conn (next_session there) (head (newest there)))) (actor.Guest (kept_new x.session x.rev)) (λ t e. s.actors t) p is;
-      })))
+      ap (λ (y : AWelcome). Some (actor.Guest (kept_new y.session y.rev))) (sym q) in (
+        not-test (is_client (w.actors n)) i,
+        refl,
+        IsEvent true
+            (ap (λ y. shown.Entered (visit_verb r) n y x.rev) session ∙ ap (shown.Entered (visit_verb r) n (next_session there)) rev ∙ ap (shows_entered (visit_verb r) n there) (sym u.free))
+            (subst (λ y. StandsFor told_by failures new y ks) (sym (not-client (w.actors n) i w now n r None u.free))
+            (record {
+              machine = m;
+              id = j ∙ s.id;
+              actors = put-actors-kept old.actors new.actors w ks n (Guest (new_conn (next_session there) (head (newest there)))) (actor.Guest (kept_new x.session x.rev)) (λ t e. s.actors t) p is;
+            })),
+      )
     where
       same : LoginAnswer (welcome_of x) ≡ LoginAnswer (welcome (opened w.pad now) (grant_of w n r)) → welcome_of x ≡ welcome (opened w.pad now) (grant_of w n r)
       same e = cc

@@ -300,7 +300,7 @@ module _ {D : Type 0} (told_by : D → Option Contents) (failures : D → ℕ) w
   tells-fetched old new pad c i d r x p e a makes is pq dq =
       let h = asked old new pad c i r e a makes in
       let f = fetches old new pad c.session c.sent c.nops x
-          (subst (λ y. IsAnswered told_by failures old pad (Fetch c.session c.sent c.nops) (replied (λ x. FetchAnswer (fetched_of x)) y) new) is h) in
+      (subst (λ y. IsAnswered told_by failures old pad (Fetch c.session c.sent c.nops) (replied (λ x. FetchAnswer (fetched_of x)) y) new) is h) in
       (IsFetched (fetched_of x) f.0 pq dq, f.1)
 
   pub tells-dead : (old new : Held D) (pad : PadState) (c i d : KeptConn) (r : Result Fetched PadBad) (why : Why) (p : Pushed) → i ≡ c → IsAt told_by failures old pad → Fetches old i r new
@@ -320,10 +320,12 @@ module _ {D : Type 0} (told_by : D → Option Contents) (failures : D → ℕ) w
       → StandsBut told_by failures mid n w ks → IsAt told_by failures new.machine w.pad → new.id ≡ mid.id
       → PutsActor mid.actors n (actor.Named (record (member_of m (ks n)) { conn = d })) new.actors → IsPush w n m s d
       → Comes told_by failures w ks now (told.Push n) new (Ok s)
-  push-comes mid new w ks now n m s d is but at same puts push =
-      (ap is_client is, refl,
-      IsEvent true (push.shown ∙ sym (ap (of_client (shows_pushed n pushed.Nothing) (shows_push w n)) is))
-      (subst (λ v. StandsFor told_by failures new v ks) (sym (ap (push_by w n) is)) (go push.world)))
+  push-comes mid new w ks now n m s d is but at same puts push = (
+    ap is_client is,
+    refl,
+    IsEvent true (push.shown ∙ sym (ap (of_client (shows_pushed n pushed.Nothing) (shows_push w n)) is))
+        (subst (λ v. StandsFor told_by failures new v ks) (sym (ap (push_by w n) is)) (go push.world)),
+  )
     where
       puts-conn : PutsActor mid.actors n (actor.Named (member_of (with_conn m push.conn) (ks n))) new.actors
       puts-conn = subst (λ c. PutsActor mid.actors n (actor.Named (record (member_of m (ks n)) { conn = c })) new.actors) push.is puts

@@ -140,18 +140,20 @@ module _ {D : Type 0} (told_by : D → Option Contents) (failures : D → ℕ) w
       → IsAnswered told_by failures mid.machine w.pad (asks w ks now n m) (Ok (ResumeAnswer (catch_up_of x))) new.machine
       → new.id ≡ mid.id → PutsActor mid.actors n (actor.Named (kept_member_resumed x.session x.head (kept_member_lost (member_of m (ks n))))) new.actors
       → Comes told_by failures w ks now (told.Resume n) new (Ok (shown.Resumed n x.session x.head))
-  resumed mid new w ks now n m x is rev on but a i puts =
-      (ap is_client is, refl,
-      IsEvent true
-      (ap (λ y. shown.Resumed n y x.head) session ∙ ap (shown.Resumed n (next_session w.pad)) heads ∙ sym (shows-as w ks now n m is rev None u.0))
-      (subst (λ y. StandsFor told_by failures new y (kept_happens w ks (AskedResume n))) (sym (resumes-as w ks now n m is rev None u.0))
-      (subst (StandsFor told_by failures new (resume_if w n (lost_member m) None)) (sym (kept-as w ks now n m is None u.0))
-      (record {
-        machine = subst (λ o. IsAt told_by failures new.machine (pad_after w.pad o)) u.1 a.1;
-        id = i ∙ but.id;
-        actors = put-actors mid.actors new.actors w ks n (Named (resume_member w.pad (lost_member m))) comes
-            (actor.Named (kept_member_resumed x.session x.head (kept_member_lost (member_of m (ks n))))) but.actors puts put-is;
-      }))))
+  resumed mid new w ks now n m x is rev on but a i puts = (
+    ap is_client is,
+    refl,
+    IsEvent true
+        (ap (λ y. shown.Resumed n y x.head) session ∙ ap (shown.Resumed n (next_session w.pad)) heads ∙ sym (shows-as w ks now n m is rev None u.0))
+        (subst (λ y. StandsFor told_by failures new y (kept_happens w ks (AskedResume n))) (sym (resumes-as w ks now n m is rev None u.0))
+        (subst (StandsFor told_by failures new (resume_if w n (lost_member m) None)) (sym (kept-as w ks now n m is None u.0))
+        (record {
+          machine = subst (λ o. IsAt told_by failures new.machine (pad_after w.pad o)) u.1 a.1;
+          id = i ∙ but.id;
+          actors = put-actors mid.actors new.actors w ks n (Named (resume_member w.pad (lost_member m))) comes
+              (actor.Named (kept_member_resumed x.session x.head (kept_member_lost (member_of m (ks n))))) but.actors puts put-is;
+        }))),
+  )
     where
       u : (fault w ks now n m ≡ None) × (outcome w.pad (asks w ks now n m) ≡ Answers (ResumeAnswer (catch_up w.pad)) (with_session w.pad (author_of n) false))
       u = unless-answers (fault w ks now n m) (Answers (ResumeAnswer (catch_up w.pad)) (with_session w.pad (author_of n) false)) (ResumeAnswer (catch_up_of x)) a.0

@@ -167,9 +167,11 @@ module _ {D : Type 0} (told_by : D → Option Contents) (failures : D → ℕ) w
   pub head-told : (old new : Held D) (pad : PadState) (r : ℕ) (doc : Doc) → pad.present ≡ true → r ≡ head (newest pad)
       → IsAnswered told_by failures old pad (ReadText None) (Ok (TextAnswer doc)) new → TellsHead told_by failures pad (Ok (Some (r, doc))) new
   head-told old new pad r doc there e a =
-      let t = text-told old new pad None doc a in
-      (ap (λ x. Some (both x doc)) e ∙ ap (λ x. Some (both (head (newest pad)) x)) t.1
-      ∙ sym (ap (λ b. if b then Some (both (head (newest pad)) (head_doc (newest pad))) else None) there), t.2)
+      let t = text-told old new pad None doc a in (
+        ap (λ x. Some (both x doc)) e ∙ ap (λ x. Some (both (head (newest pad)) x)) t.1
+            ∙ sym (ap (λ b. if b then Some (both (head (newest pad)) (head_doc (newest pad))) else None) there),
+        t.2,
+      )
     where
       both : ℕ → Doc → ℕ × Doc
       both a b = (a, b)
@@ -187,7 +189,7 @@ module _ {D : Type 0} (told_by : D → Option Contents) (failures : D → ℕ) w
       → Reads old r mid → r ≡ Ok st → Steps told_by failures mid (ReadText None) TextAnswer x new → x ≡ Ok doc → TellsHead told_by failures pad (Ok (Some (st.head, doc))) new
   head-of old mid new pad st doc r x a reads is texts iz =
       let h = status-there told_by failures old mid pad st
-          (answered told_by failures old mid pad ReadStatus (Ok (StatusAnswer (status_of st))) a (subst (λ y. Reads old y mid) is reads)) in
+      (answered told_by failures old mid pad ReadStatus (Ok (StatusAnswer (status_of st))) a (subst (λ y. Reads old y mid) is reads)) in
       head-told mid new pad st.head doc h.0 h.1 (text-asked mid new pad None x (Ok doc) h.2 texts iz)
 
   pub head-off : (old new : Held D) (pad : PadState) (r : Result PadStatus PadBad) → IsAt told_by failures old pad → Reads old r new → r ≡ Err bad.Gone → TellsHead told_by failures pad (Ok None) new
@@ -212,9 +214,10 @@ module _ {D : Type 0} (told_by : D → Option Contents) (failures : D → ℕ) w
       go : (b : Bool) → w.pad.present ≡ b → (shown.Head r doc ≡ shows_head w.pad) × (shown.HeadMarks r doc ≡ shows_marks w.pad)
       go false p = none_some (sym (sym h ∙ e ∙ ap (λ b. if b then Some both else None) p))
       go true p =
-          let q = some_same (sym h ∙ e ∙ ap (λ b. if b then Some both else None) p) in
-          (ap (λ (x : ℕ × Doc). shown.Head x.0 x.1) q ∙ sym (ap (λ b. if b then shown.Head (head (newest w.pad)) (head_doc (newest w.pad)) else shown.Gone verb.Head) p),
-          ap (λ (x : ℕ × Doc). shown.HeadMarks x.0 x.1) q ∙ sym (ap (λ b. if b then shown.HeadMarks (head (newest w.pad)) (head_doc (newest w.pad)) else shown.Gone verb.Marks) p))
+          let q = some_same (sym h ∙ e ∙ ap (λ b. if b then Some both else None) p) in (
+            ap (λ (x : ℕ × Doc). shown.Head x.0 x.1) q ∙ sym (ap (λ b. if b then shown.Head (head (newest w.pad)) (head_doc (newest w.pad)) else shown.Gone verb.Head) p),
+            ap (λ (x : ℕ × Doc). shown.HeadMarks x.0 x.1) q ∙ sym (ap (λ b. if b then shown.HeadMarks (head (newest w.pad)) (head_doc (newest w.pad)) else shown.Gone verb.Marks) p),
+          )
 
   pub gone-shows : (w : WorldState) (o : Option (ℕ × Doc)) → o ≡ head_there w.pad → o ≡ None
       → (shown.Gone verb.Head ≡ shows_head w.pad) × (shown.Gone verb.Marks ≡ shows_marks w.pad)
@@ -225,9 +228,10 @@ module _ {D : Type 0} (told_by : D → Option Contents) (failures : D → ℕ) w
 
       go : (b : Bool) → w.pad.present ≡ b → (shown.Gone verb.Head ≡ shows_head w.pad) × (shown.Gone verb.Marks ≡ shows_marks w.pad)
       go true p = none_some (sym h ∙ e ∙ ap (λ b. if b then Some both else None) p)
-      go false p =
-          (sym (ap (λ b. if b then shown.Head (head (newest w.pad)) (head_doc (newest w.pad)) else shown.Gone verb.Head) p),
-          sym (ap (λ b. if b then shown.HeadMarks (head (newest w.pad)) (head_doc (newest w.pad)) else shown.Gone verb.Marks) p))
+      go false p = (
+        sym (ap (λ b. if b then shown.Head (head (newest w.pad)) (head_doc (newest w.pad)) else shown.Gone verb.Head) p),
+        sym (ap (λ b. if b then shown.HeadMarks (head (newest w.pad)) (head_doc (newest w.pad)) else shown.Gone verb.Marks) p),
+      )
 
   -- a revision is shown, and nothing else of the world changed
   pub text-shows : (old new : World D) (w : WorldState) (ks : Kepts) (r : ℕ) (doc : Doc) → StandsFor told_by failures old w ks

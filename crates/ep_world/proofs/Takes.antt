@@ -101,12 +101,14 @@ module _ {D : Type 0} (told_by : D → Option Contents) (failures : D → ℕ) w
   pub guest-nothing : (mid new : World D) (w : WorldState) (ks : Kepts) (now : ℕ) (n : Name) (c : Conn) → w.actors n ≡ Guest c → c.up ≡ [] → StandsBut told_by failures mid n w ks
       → new.machine ≡ mid.machine → new.id ≡ mid.id → PutsActor mid.actors n (actor.Guest (conn_of c)) new.actors
       → Comes told_by failures w ks now (told.Take n) new (Ok (shown.Nothing verb.Take n))
-  guest-nothing mid new w ks now n c is none s m i p =
-      (somebody (w.actors n) c is, refl,
-      IsEvent true
-      (sym (ap (λ x. shows_first verb.Take n w.pad (next_up x)) is ∙ ap (λ us. shows_first verb.Take n w.pad (first_sent c.session us)) none))
-      (subst (λ y. StandsFor told_by failures new y ks) (sym (ap (take_by w now n) is ∙ ap (take_first_guest w now n c) none))
-      (back mid new w ks n (Guest c) is s m i (actor.Guest (conn_of c)) refl p)))
+  guest-nothing mid new w ks now n c is none s m i p = (
+    somebody (w.actors n) c is,
+    refl,
+    IsEvent true
+        (sym (ap (λ x. shows_first verb.Take n w.pad (next_up x)) is ∙ ap (λ us. shows_first verb.Take n w.pad (first_sent c.session us)) none))
+        (subst (λ y. StandsFor told_by failures new y ks) (sym (ap (take_by w now n) is ∙ ap (take_first_guest w now n c) none))
+        (back mid new w ks n (Guest c) is s m i (actor.Guest (conn_of c)) refl p)),
+  )
 
   pub guest-took : (mid new : World D) (w : WorldState) (ks : Kepts) (now : ℕ) (n : Name) (c : Conn) (msg : Message) (rest : List Message) (t : Took) → w.actors n ≡ Guest c → c.up ≡ msg ∷ rest
       → StandsBut told_by failures mid n w ks → Settles told_by failures w.pad c.session msg now new.machine t
@@ -127,34 +129,42 @@ module _ {D : Type 0} (told_by : D → Option Contents) (failures : D → ℕ) w
       stands v m j e = seated mid new n w v ks (Guest d) s m i j e (actor.Guest (conn_of d)) refl p
 
       go : (t : Took) → Settles told_by failures w.pad c.session msg now new.machine t → Comes told_by failures w ks now (told.Take n) new (Ok (shows_took verb.Take n t))
-      go (took.Made x) h =
-          (somebody (w.actors n) c is, refl,
-          IsEvent true
-          (sym (shows-of ∙ ap (shows_taken verb.Take n (commit w.pad (at_head w.pad msg.base msg.change.edit))) h.0 ∙ ap (shows_made verb.Take n) (sym h.1)))
-          (subst (λ y. StandsFor told_by failures new y ks) (sym (takes None h.0)) (stands (take_guest w now n d msg None) h.2 refl refl)))
-      go (took.Refused x) h =
-          (somebody (w.actors n) c is, refl,
-          IsEvent true
-          (sym (shows-of ∙ ap (shows_taken verb.Take n (commit w.pad (at_head w.pad msg.base msg.change.edit))) h.1 ∙ ap (λ y. shown.Refused verb.Take (Some n) y) (sym h.2)))
-          (subst (λ y. StandsFor told_by failures new y ks) (sym (takes (Some h.0) h.1)) (stands (take_guest w now n d msg (Some h.0)) h.3 refl refl)))
-      go (took.NoRoom b) h =
-          (somebody (w.actors n) c is, refl,
-          HasNoRoom b refl
-          (subst (λ y. StandsFor told_by failures new y ks)
-          (sym (ap (overfull_by w n) is ∙ ap (overfull_first_guest w n c) up ∙ ap (overfull_guest w n d) h.0))
-          (stands (overfull_guest w n d None) h.1 refl refl)))
+      go (took.Made x) h = (
+        somebody (w.actors n) c is,
+        refl,
+        IsEvent true
+            (sym (shows-of ∙ ap (shows_taken verb.Take n (commit w.pad (at_head w.pad msg.base msg.change.edit))) h.0 ∙ ap (shows_made verb.Take n) (sym h.1)))
+            (subst (λ y. StandsFor told_by failures new y ks) (sym (takes None h.0)) (stands (take_guest w now n d msg None) h.2 refl refl)),
+      )
+      go (took.Refused x) h = (
+        somebody (w.actors n) c is,
+        refl,
+        IsEvent true
+            (sym (shows-of ∙ ap (shows_taken verb.Take n (commit w.pad (at_head w.pad msg.base msg.change.edit))) h.1 ∙ ap (λ y. shown.Refused verb.Take (Some n) y) (sym h.2)))
+            (subst (λ y. StandsFor told_by failures new y ks) (sym (takes (Some h.0) h.1)) (stands (take_guest w now n d msg (Some h.0)) h.3 refl refl)),
+      )
+      go (took.NoRoom b) h = (
+        somebody (w.actors n) c is,
+        refl,
+        HasNoRoom b refl
+            (subst (λ y. StandsFor told_by failures new y ks)
+            (sym (ap (overfull_by w n) is ∙ ap (overfull_first_guest w n c) up ∙ ap (overfull_guest w n d) h.0))
+            (stands (overfull_guest w n d None) h.1 refl refl)),
+      )
 
   -- ---- of a client
 
   pub named-nothing : (mid new : World D) (w : WorldState) (ks : Kepts) (now : ℕ) (n : Name) (m : AMember) → w.actors n ≡ Named m → m.conn.up ≡ [] → StandsBut told_by failures mid n w ks
       → new.machine ≡ mid.machine → new.id ≡ mid.id → PutsActor mid.actors n (actor.Named (member_of m (ks n))) new.actors
       → Comes told_by failures w ks now (told.Take n) new (Ok (shown.Nothing verb.Take n))
-  named-nothing mid new w ks now n m is none s k i p =
-      (somebody-named (w.actors n) m is, refl,
-      IsEvent true
-      (sym (ap (λ x. shows_first verb.Take n w.pad (next_up x)) is ∙ ap (λ us. shows_first verb.Take n w.pad (first_sent m.conn.session us)) none))
-      (subst (λ y. StandsFor told_by failures new y ks) (sym (ap (take_by w now n) is ∙ ap (take_first_named w now n m) none))
-      (back mid new w ks n (Named m) is s k i (actor.Named (member_of m (ks n))) refl p)))
+  named-nothing mid new w ks now n m is none s k i p = (
+    somebody-named (w.actors n) m is,
+    refl,
+    IsEvent true
+        (sym (ap (λ x. shows_first verb.Take n w.pad (next_up x)) is ∙ ap (λ us. shows_first verb.Take n w.pad (first_sent m.conn.session us)) none))
+        (subst (λ y. StandsFor told_by failures new y ks) (sym (ap (take_by w now n) is ∙ ap (take_first_named w now n m) none))
+        (back mid new w ks n (Named m) is s k i (actor.Named (member_of m (ks n))) refl p)),
+  )
 
   pub named-took : (mid new : World D) (w : WorldState) (ks : Kepts) (now : ℕ) (n : Name) (m : AMember) (msg : Message) (rest : List Message) (t : Took) → w.actors n ≡ Named m → m.conn.up ≡ msg ∷ rest
       → StandsBut told_by failures mid n w ks → Settles told_by failures w.pad m.conn.session msg now new.machine t
@@ -175,28 +185,34 @@ module _ {D : Type 0} (told_by : D → Option Contents) (failures : D → ℕ) w
       puts t = PutsActor mid.actors n (actor.Named (record (member_of m (ks n)) { conn = kept_closing_if (closing_of t) (conn_of (with_up m.conn rest)) })) new.actors
 
       go : (t : Took) → Settles told_by failures w.pad m.conn.session msg now new.machine t → puts t → Comes told_by failures w ks now (told.Take n) new (Ok (shows_took verb.Take n t))
-      go (took.Made x) h p =
-          (somebody-named (w.actors n) m is, refl,
-          IsEvent true
-          (sym (shows-of ∙ ap (shows_taken verb.Take n (commit w.pad (at_head w.pad msg.base msg.change.edit))) h.0 ∙ ap (shows_made verb.Take n) (sym h.1)))
-          (subst (λ y. StandsFor told_by failures new y ks) (sym (takes None h.0))
-          (seated mid new n w (take_named w now n d msg None) ks (Named d) s h.2 i refl refl (actor.Named (member_of d (ks n))) refl p)))
-      go (took.Refused x) h p =
-          (somebody-named (w.actors n) m is, refl,
-          IsEvent true
-          (sym (shows-of ∙ ap (shows_taken verb.Take n (commit w.pad (at_head w.pad msg.base msg.change.edit))) h.1 ∙ ap (λ y. shown.Refused verb.Take (Some n) y) (sym h.2)))
-          (subst (λ y. StandsFor told_by failures new y ks) (sym (takes (Some h.0) h.1))
-          (seated mid new n w (take_named w now n d msg (Some h.0)) ks (Named (with_conn d (closing (refusal_word h.0) d.conn))) s h.3 i refl refl
-          (actor.Named (record (member_of m (ks n)) { conn = kept_closing (closing_word x) (conn_of d.conn) }))
-          (ap (λ y. Some (actor.Named (record (member_of m (ks n)) { conn = y }))) (conn-closing (refusal_word h.0) d.conn ∙ ap (λ e. kept_closing e (conn_of d.conn)) (closing-word h.0 ∙ ap closing_word (sym h.2)))) p)))
-      go (took.NoRoom b) h p =
-          (somebody-named (w.actors n) m is, refl,
-          HasNoRoom b refl
-          (subst (λ y. StandsFor told_by failures new y ks)
-          (sym (ap (overfull_by w n) is ∙ ap (overfull_first_named w n m) up ∙ ap (overfull_named w n d) h.0))
-          (seated mid new n w (overfull_named w n d None) ks (Named (with_conn d (closing JournalFull d.conn))) s h.1 i refl refl
-          (actor.Named (record (member_of m (ks n)) { conn = kept_closing ended.Full (conn_of d.conn) }))
-          (ap (λ y. Some (actor.Named (record (member_of m (ks n)) { conn = y }))) (conn-closing JournalFull d.conn)) p)))
+      go (took.Made x) h p = (
+        somebody-named (w.actors n) m is,
+        refl,
+        IsEvent true
+            (sym (shows-of ∙ ap (shows_taken verb.Take n (commit w.pad (at_head w.pad msg.base msg.change.edit))) h.0 ∙ ap (shows_made verb.Take n) (sym h.1)))
+            (subst (λ y. StandsFor told_by failures new y ks) (sym (takes None h.0))
+            (seated mid new n w (take_named w now n d msg None) ks (Named d) s h.2 i refl refl (actor.Named (member_of d (ks n))) refl p)),
+      )
+      go (took.Refused x) h p = (
+        somebody-named (w.actors n) m is,
+        refl,
+        IsEvent true
+            (sym (shows-of ∙ ap (shows_taken verb.Take n (commit w.pad (at_head w.pad msg.base msg.change.edit))) h.1 ∙ ap (λ y. shown.Refused verb.Take (Some n) y) (sym h.2)))
+            (subst (λ y. StandsFor told_by failures new y ks) (sym (takes (Some h.0) h.1))
+            (seated mid new n w (take_named w now n d msg (Some h.0)) ks (Named (with_conn d (closing (refusal_word h.0) d.conn))) s h.3 i refl refl
+            (actor.Named (record (member_of m (ks n)) { conn = kept_closing (closing_word x) (conn_of d.conn) }))
+            (ap (λ y. Some (actor.Named (record (member_of m (ks n)) { conn = y }))) (conn-closing (refusal_word h.0) d.conn ∙ ap (λ e. kept_closing e (conn_of d.conn)) (closing-word h.0 ∙ ap closing_word (sym h.2)))) p)),
+      )
+      go (took.NoRoom b) h p = (
+        somebody-named (w.actors n) m is,
+        refl,
+        HasNoRoom b refl
+            (subst (λ y. StandsFor told_by failures new y ks)
+            (sym (ap (overfull_by w n) is ∙ ap (overfull_first_named w n m) up ∙ ap (overfull_named w n d) h.0))
+            (seated mid new n w (overfull_named w n d None) ks (Named (with_conn d (closing JournalFull d.conn))) s h.1 i refl refl
+            (actor.Named (record (member_of m (ks n)) { conn = kept_closing ended.Full (conn_of d.conn) }))
+            (ap (λ y. Some (actor.Named (record (member_of m (ks n)) { conn = y }))) (conn-closing JournalFull d.conn)) p)),
+      )
 
   -- ---- of the connection before the last resumption
 
@@ -210,11 +226,13 @@ module _ {D : Type 0} (told_by : D → Option Contents) (failures : D → ℕ) w
   pub late-nothing : (mid new : World D) (w : WorldState) (ks : Kepts) (now : ℕ) (n : Name) (m : AMember) → w.actors n ≡ Named m → late_up m.earlier ≡ None → StandsBut told_by failures mid n w ks
       → new.machine ≡ mid.machine → new.id ≡ mid.id → PutsActor mid.actors n (actor.Named (member_of m (ks n))) new.actors
       → Comes told_by failures w ks now (told.Late n) new (Ok (shown.Nothing verb.Late n))
-  late-nothing mid new w ks now n m is none s k i p =
-      (known (w.actors n) m is, refl,
-      IsEvent true (sym (late-shown w n m is ∙ ap (shows_first verb.Late n w.pad) none))
-      (subst (λ y. StandsFor told_by failures new y ks) (sym (ap (late_by w now n) is ∙ nothing m.earlier none))
-      (back mid new w ks n (Named m) is s k i (actor.Named (member_of m (ks n))) refl p)))
+  late-nothing mid new w ks now n m is none s k i p = (
+    known (w.actors n) m is,
+    refl,
+    IsEvent true (sym (late-shown w n m is ∙ ap (shows_first verb.Late n w.pad) none))
+        (subst (λ y. StandsFor told_by failures new y ks) (sym (ap (late_by w now n) is ∙ nothing m.earlier none))
+        (back mid new w ks n (Named m) is s k i (actor.Named (member_of m (ks n))) refl p)),
+  )
     where
       queue : (c : Conn) (us : List Message) → first_sent c.session us ≡ None → late_first w now n m c us ≡ w
       queue c [] h = refl
@@ -244,14 +262,18 @@ module _ {D : Type 0} (told_by : D → Option Contents) (failures : D → ℕ) w
       stands v h j e = seated mid new n w v ks (Named d) s h i j e (actor.Named (member_of d (ks n))) refl p
 
       go : (t : Took) → Brings told_by failures w.pad c.session msg now new.machine t → Comes told_by failures w ks now (told.Late n) new (shows_late n t)
-      go (took.Made x) h =
-          (known (w.actors n) m is, refl,
-          IsEvent true
-          (sym (shows-of ∙ ap (shows_taken verb.Late n (commit w.pad (at_head w.pad msg.base msg.change.edit))) h.0 ∙ ap (shows_made verb.Late n) (sym h.1)))
-          (subst (λ y. StandsFor told_by failures new y ks) (sym (takes None h.0)) (stands (late_as w now n d c.session msg None) h.2 refl refl)))
-      go (took.Refused x) h =
-          (known (w.actors n) m is, refl,
-          IsEvent true
-          (sym (shows-of ∙ ap (shows_taken verb.Late n (commit w.pad (at_head w.pad msg.base msg.change.edit))) h.1 ∙ ap (λ y. shown.Refused verb.Late (Some n) y) (sym h.2)))
-          (subst (λ y. StandsFor told_by failures new y ks) (sym (takes (Some h.0) h.1)) (stands (late_as w now n d c.session msg (Some h.0)) h.3 refl refl)))
+      go (took.Made x) h = (
+        known (w.actors n) m is,
+        refl,
+        IsEvent true
+            (sym (shows-of ∙ ap (shows_taken verb.Late n (commit w.pad (at_head w.pad msg.base msg.change.edit))) h.0 ∙ ap (shows_made verb.Late n) (sym h.1)))
+            (subst (λ y. StandsFor told_by failures new y ks) (sym (takes None h.0)) (stands (late_as w now n d c.session msg None) h.2 refl refl)),
+      )
+      go (took.Refused x) h = (
+        known (w.actors n) m is,
+        refl,
+        IsEvent true
+            (sym (shows-of ∙ ap (shows_taken verb.Late n (commit w.pad (at_head w.pad msg.base msg.change.edit))) h.1 ∙ ap (λ y. shown.Refused verb.Late (Some n) y) (sym h.2)))
+            (subst (λ y. StandsFor told_by failures new y ks) (sym (takes (Some h.0) h.1)) (stands (late_as w now n d c.session msg (Some h.0)) h.3 refl refl)),
+      )
       go (took.NoRoom b) h = tt

@@ -69,7 +69,6 @@ overfull_at (told.Take n) = Some (Overfull n)
 overfull_at (told.Resume n) = Some (Lose n)
 overfull_at e = None
 
-
 module _ {D : Type 0} (told_by : D → Option Contents) (failures : D → ℕ) where
   -- an open machine in a state of this pad, which its records tell
   pub record IsAt (m : Held D) (p : PadState) : Type 0 where

@@ -67,7 +67,10 @@ impl<D: Crash> World<D> {
         member.lose();
         let grant = grant(self.alloc, &self.id, &name, false)?;
         let birth = Some(member.birth);
-        match self.machine.resume(&grant, member.client.rev(), birth, None, now) {
+        match self
+            .machine
+            .resume(&grant, member.client.rev(), birth, None, now)
+        {
             Ok(told) => {
                 member.resume(self.alloc, told.session, told.head);
                 self.actors.seat(self.alloc, &name, member)?;
@@ -138,11 +141,7 @@ fn receive(
 fn visit_verb(read_only: bool) -> Verb
     ensures { result ≡ visit_verb read_only }
 {
-    if read_only {
-        Verb::Reader
-    } else {
-        Verb::Guest
-    }
+    if read_only { Verb::Reader } else { Verb::Guest }
 }
 
 /// `a.`

@@ -40,12 +40,14 @@ impl<D: Crash> World<D> {
             return Err(WorldBad::NoText);
         }
         match self.machine.set_text(text, now) {
-            Ok(Committed {
-                rev,
-                fixed,
-                nop: _,
-                change,
-            }) => Ok(Shown::Set { rev, fixed, change }),
+            Ok(
+                Committed {
+                    rev,
+                    fixed,
+                    nop: _,
+                    change,
+                },
+            ) => Ok(Shown::Set { rev, fixed, change }),
             Err(bad) => refused(Verb::Set, None, bad),
         }
     }

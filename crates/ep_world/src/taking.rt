@@ -50,12 +50,7 @@ impl<D: Crash> World<D> {
         }
     }
 
-    fn take_of_guest(
-        &mut self,
-        name: Units,
-        mut conn: Conn,
-        now: u64,
-    ) -> Result<Shown, WorldBad>
+    fn take_of_guest(&mut self, name: Units, mut conn: Conn, now: u64) -> Result<Shown, WorldBad>
         ensures { (w : WorldState) (ks : Kepts) (c : AConn) → w.actors name ≡ Guest c → conn ≡ conn_of c → StandsBut D.told D.failures self.old name w ks
             → Comes D.told D.failures w ks now (event.Take name) self.new result }
     {

@@ -80,7 +80,10 @@ fn show_lost(name: Units, was_connected: bool) -> Shown
 }
 
 /// A client is told the next, if it can be told anything.
-fn tell_member<D: Disk>(machine: &mut PadMachine<D>, member: &mut Member) -> Result<Pushed, WorldBad>
+fn tell_member<D: Disk>(
+    machine: &mut PadMachine<D>,
+    member: &mut Member,
+) -> Result<Pushed, WorldBad>
     ensures told { (pad : PadState) → IsAt D.told D.failures machine.old pad → IfOk result (TellsMember D.told D.failures pad member.old machine.new member.new) }
     ensures failed { IfErr result IsFailure }
 {

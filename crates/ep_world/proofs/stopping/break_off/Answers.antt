@@ -21,11 +21,12 @@ pub returns-clause-breaks : goal.returns-clause-breaks
 returns-clause-breaks g c = λ pad message e a.
     let off = BreaksOff g.D.Disk.told g.D.Device.failures pad c.args.now message c.accept.new.self in
     let b = breaks-first g.D.Disk.told g.D.Device.failures c.args.machine.now c.accept.new.self pad c.args.now message c.args.first c.in-Some.session c.in-Some.sent c.in-Ok.change
-        (replied (λ x. CommitAnswer (told_by x)) c.accept.result) e c.in-Some.is c.in-Ok.is c.ops-normal.ensures.normal a (λ st k x. let y = c.accept.ensures st k x in (y.0, y.1, y.2)) in
+    (replied (λ x. CommitAnswer (told_by x)) c.accept.result) e c.in-Some.is c.in-Ok.is c.ops-normal.ensures.normal a (λ st k x. let y = c.accept.ensures st k x in (y.0, y.1, y.2)) in
     elim c.match-accept.branch [
-      in-Err-NoMemory w ↦ wanting off c.match-accept.result w.result-is
-    | in_default-accept w ↦ done off c.match-accept.result _ w.result-is b
-    | in_default-accept-2 w ↦ done off c.match-accept.result _ w.result-is b ]
+      | in-Err-NoMemory w ↦ wanting off c.match-accept.result w.result-is
+      | in_default-accept w ↦ done off c.match-accept.result _ w.result-is b
+      | in_default-accept-2 w ↦ done off c.match-accept.result _ w.result-is b
+    ]
 
 unfailed : {A : Type 0} (r : Result A WorldBad) (x : A) → r ≡ Ok x → IfErr r IsFailure
 unfailed r x e = subst (λ y. IfErr y IsFailure) (sym e) tt
@@ -35,6 +36,7 @@ lacking r e = subst (λ y. IfErr y IsFailure) (sym e) tt
 
 pub returns-clause-failed : goal.returns-clause-failed
 returns-clause-failed g c = elim c.match-accept.branch [
-    in-Err-NoMemory w ↦ lacking c.match-accept.result w.result-is
+  | in-Err-NoMemory w ↦ lacking c.match-accept.result w.result-is
   | in_default-accept w ↦ unfailed c.match-accept.result _ w.result-is
-  | in_default-accept-2 w ↦ unfailed c.match-accept.result _ w.result-is ]
+  | in_default-accept-2 w ↦ unfailed c.match-accept.result _ w.result-is
+]

@@ -9,6 +9,10 @@ returns-in-None c =
     (e, without-nobody c.args.actors.now c.take.new.self c.args.name.now c.take.ensures.others e)
 
 pub returns-in_ok-put-in-Some : goal.returns-in_ok-put-in-Some
-returns-in_ok-put-in-Some c =
-    (c.in-Some.actor, c.first_sent-first.new.self, sym c.in-Some.ensures.actor, c.first_sent-first.ensures,
-    puts-back c.args.actors.now c.take.new.self c.put.new.self c.args.name.now c.first_sent-first.new.self c.take.ensures.others c.in_ok-put-in-Some.ensures)
+returns-in_ok-put-in-Some c = (
+  c.in-Some.actor,
+  c.first_sent-first.new.self,
+  sym c.in-Some.ensures.actor,
+  c.first_sent-first.ensures,
+  puts-back c.args.actors.now c.take.new.self c.put.new.self c.args.name.now c.first_sent-first.new.self c.take.ensures.others c.in_ok-put-in-Some.ensures,
+)
