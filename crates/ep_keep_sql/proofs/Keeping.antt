@@ -18,10 +18,10 @@ use Rattle.sqlite_schema.specs.contracts.schema.Schema.{the_row}
 use Rattle.ep_outside.proofs.Rising.{and_left, and_right, and_both}
 use Rattle.ep_outside.specs.declared.keeper.Pair.{Pair}
 use Rattle.ep_outside.specs.declared.keeper.Put.{Put}
-use Rattle.ep_outside.specs.Kept.{after, listed, value_at, Gets, Lists, Puts, Stays}
+use Rattle.ep_outside.specs.Kept.{after, listed, value_at, Gets, Lists, Puts, Rises, Stays}
 use Rattle.ep_keep_sql.specs.Inside.{Rests}
 use Rattle.ep_keep_sql.specs.KeptTable.{kept_schema}
-use Rattle.ep_keep_sql.specs.Keeps.{began_well, is_ours, map_of, same_code, serves, told_of, Goes, is_kept, is_kept_at, rises_if}
+use Rattle.ep_keep_sql.specs.Keeps.{began_well, is_ours, map_of, same_code, serves, told_of, Goes, is_kept, is_kept_at, rises_if, rises_told}
 use Rattle.ep_keep_sql.specs.Told.{map_in, Holds}
 use Rattle.ep_keep_sql.proofs.Removes.{tells}
 use Rattle.ep_keep_sql.proofs.Without.{told_rises}
@@ -157,9 +157,12 @@ rises_of : (s : State) → rises_if (map_of s) ≡ true
 rises_of s =
     elim (serves s && is_ours s.now.schema) as (λ b. rises_if (cond b (map_in (s.now.trees 0)) None) ≡ true) [ true ↦ rises_in (s.now.trees 0) (map_in (s.now.trees 0)) refl | false ↦ refl ]
 
-pub told_rising : {S : Type 0} (g : Ghosts S) (first conn : Option (Held S)) → rises_if (told_of g first conn) ≡ true
+told_rising : {S : Type 0} (g : Ghosts S) (first conn : Option (Held S)) → rises_if (told_of g first conn) ≡ true
 told_rising g first None = refl
 told_rising g first (Some h) = elim (began_well g first) as (λ b. rises_if (cond b (map_of (state g h)) None) ≡ true) [ true ↦ rises_of (state g h) | false ↦ refl ]
+
+pub told_in_order : {S : Type 0} (g : Ghosts S) (first conn : Option (Held S)) → Rises (told_of g first conn)
+told_in_order g first conn = rises_told (told_of g first conn) (told_rising g first conn)
 
 -- a new keeper
 pub kept_first : {S : Type 0} (g : Ghosts S) (conn : Option (Held S)) → is_kept_at g (began_well g conn) conn ≡ true

@@ -1,6 +1,7 @@
 -- What a keeper over a connection tells, and what its calls keep true.
 use Rattle.std.specs.Prelude.{◌≡◌, ◌≤◌, ◌==◌, ◌&&◌, Bool, true, false, IsTrue, List, Option, None, Some, is_some, if◌then◌else◌}
 use base.Stored.{Gv, gnil, gnum, gcons}
+use Rattle.std.specs.Coded.{Coded-set, Unit-prop, coded_bool}
 use Rattle.sqlite.specs.View.{doubt}
 use Rattle.sqlite.specs.State.{State, HasCleanDisk}
 use Rattle.sqlite.specs.Held.{Held, state}
@@ -60,6 +61,11 @@ rises_if (Some m) = rises m
 pub rises_told : (o : Option (List Pair)) → rises_if o ≡ true → Rises o
 rises_told None h = tt
 rises_told (Some m) h = h
+
+-- that has one proof
+pub Rises-prop : (o : Option (List Pair)) → IsProp (Rises o)
+Rises-prop None = Unit-prop
+Rises-prop (Some m) = Coded-set coded_bool (rises m) true
 
 -- no lie of the disk is forgotten, and a connection that was shut stays so
 pub record Goes (old new : State) : Type 0 where
