@@ -1,6 +1,9 @@
 pub mod Again
 pub mod Commits
 pub mod Get
+pub mod Goes
+pub mod Keeping
+pub mod Listings
 pub mod Lists
 pub mod Make
 pub mod Prefixes
@@ -12,4 +15,3 @@ pub mod Statements
 pub mod Texts
 pub mod With
 pub mod Without
-pub mod Listings

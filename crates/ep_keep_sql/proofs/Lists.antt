@@ -75,7 +75,7 @@ module _ (terms : List Term) (params : Row) (test : Pair → Bool) (agree : (r :
       let t = told_more r rs m e in
       let ih = permuted rs t.rest t.told in
       let whole : IsPermutation (map out_of (filter test (t.pair ∷ t.rest))) (map out_of (filter test m)) =
-          IsPermutation-map out_of _ _ (IsPermutation-filter test _ _ (subst (IsPermutation (t.pair ∷ t.rest)) (sym t.whole) (with_permutes t.rest t.pair.key t.pair.value t.fresh))) in
+      IsPermutation-map out_of _ _ (IsPermutation-filter test _ _ (subst (IsPermutation (t.pair ∷ t.rest)) (sym t.whole) (with_permutes t.rest t.pair.key t.pair.value t.fresh))) in
       let same = agree r t.pair t.is in
       let shown : output (from_query terms) (params ∷ r ∷ []) ≡ out_of t.pair = ap₂ (λ a b. (a ∷ [], a ∷ b ∷ [])) t.is.name t.is.value in
       elim (cases_Bool (test t.pair)) [
@@ -97,10 +97,10 @@ module _ (terms : List Term) (params : Row) (test : Pair → Bool) (agree : (r :
   answered db m rows told a =
       let kept : a.kept ≡ outs (db 0) = a.distinct ∙ ap (map (output (from_query terms))) a.grouped in
       let same : IsPermutation (map out_of (filter test m)) a.ordered =
-          IsPermutation-trans _ _ _ (IsPermutation-sym _ _ (permuted (db 0) m told)) (subst (λ k. IsPermutation k a.ordered) kept a.same) in
+      IsPermutation-trans _ _ _ (IsPermutation-sym _ _ (permuted (db 0) m told)) (subst (λ k. IsPermutation k a.ordered) kept a.same) in
       let strict : IsAscending (λ x y. output_cmp (from_query terms) x y ≡ Less) (map out_of (filter test m)) =
-          ascending-map (λ x y. output_cmp (from_query terms) x y ≡ Less) out_of (filter test m)
-              (ascending_weaker Below (λ p q. output_cmp (from_query terms) (out_of p) (out_of q) ≡ Less) out_below (filter test m) (ascending-filter Below test m (ascending m (told_rises (db 0) m told)))) in
+      ascending-map (λ x y. output_cmp (from_query terms) x y ≡ Less) out_of (filter test m)
+      (ascending_weaker Below (λ p q. output_cmp (from_query terms) (out_of p) (out_of q) ≡ Less) out_below (filter test m) (ascending-filter Below test m (ascending m (told_rises (db 0) m told)))) in
       let ordered = sorted_unique (output_cmp (from_query terms)) (output_cmp_total (from_query terms)) _ a.ordered strict same a.sorted in
       a.shown ∙ (ap (map (λ (o : Output). o.1)) ordered ∙ map-map (λ (o : Output). o.1) out_of (filter test m))
 
@@ -137,15 +137,19 @@ still_listed : (test : Pair → Bool) (m : List Pair) (prefix : List ℕ) → ((
 still_listed test m prefix lets = filter-filter (λ p. starts_with nat_eq p.key prefix) test lets m
 
 pub from_shows : (db : Trees) (m : List Pair) (prefix : List ℕ) (rows : List Row) → told_in (db 0) ≡ Some m → IsAnswer (from_query from_terms) (overlay db []) (Text prefix ∷ []) rows → ShowsListed m prefix rows
-from_shows db m prefix rows told a =
-    (filter (is_from prefix) m, answered from_terms (Text prefix ∷ []) (is_from prefix) (from_agrees prefix) db m rows told a,
-    still_listed (is_from prefix) m prefix (λ p h. and_from _ _ (from_prefix p.key prefix h) refl))
+from_shows db m prefix rows told a = (
+  filter (is_from prefix) m,
+  answered from_terms (Text prefix ∷ []) (is_from prefix) (from_agrees prefix) db m rows told a,
+  still_listed (is_from prefix) m prefix (λ p h. and_from _ _ (from_prefix p.key prefix h) refl),
+)
 
 pub between_shows : (db : Trees) (m : List Pair) (prefix end : List ℕ) (rows : List Row) → ((n : List ℕ) → starts_with nat_eq n prefix ≡ true → key_cmp n end ≡ Less) → told_in (db 0) ≡ Some m
     → IsAnswer (from_query between_terms) (overlay db []) (Text prefix ∷ Text end ∷ []) rows → ShowsListed m prefix rows
-between_shows db m prefix end rows above told a =
-    (filter (is_between prefix end) m, answered between_terms (Text prefix ∷ Text end ∷ []) (is_between prefix end) (between_agrees prefix end) db m rows told a,
-    still_listed (is_between prefix end) m prefix (λ p h. and_from _ _ (from_prefix p.key prefix h) (and_from _ _ (ap is_lt (above p.key h)) refl)))
+between_shows db m prefix end rows above told a = (
+  filter (is_between prefix end) m,
+  answered between_terms (Text prefix ∷ Text end ∷ []) (is_between prefix end) (between_agrees prefix end) db m rows told a,
+  still_listed (is_between prefix end) m prefix (λ p h. and_from _ _ (from_prefix p.key prefix h) (and_from _ _ (ap is_lt (above p.key h)) refl)),
+)
 
 -- ---- the rows in turn
 

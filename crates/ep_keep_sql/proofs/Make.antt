@@ -9,7 +9,9 @@ use Rattle.sqlite.specs.Listing.{understood}
 use Rattle.sqlite.specs.State.{State, Executes, Writes, IsUnchanged}
 use Rattle.sqlite_tied.specs.Compute.{everything}
 use Rattle.sqlite.proofs.Callers.{IsPlain, command_of, runs_as, statement_of}
+use Rattle.std.specs.Prelude.{IsTrue}
 use Rattle.ep_keep_sql.specs.KeptTable.{kept, kept_schema, no_schema}
+use Rattle.ep_keep_sql.specs.Told.{map_in, Holds}
 use Rattle.ep_keep_sql.proofs.Texts.{make_text, schema_is, table_is}
 
 make_is : (command_of (understood no_schema make_text) ≡ CreateTable) × (statement_of make_text (understood no_schema make_text) ≡ make_text)
@@ -28,8 +30,8 @@ went (inr on) = on
 pub same_value : {B E : Type 0} {a b : B} → ◌≡◌ {A = Result B E} (Ok a) (Ok b) → a ≡ b
 same_value e = cc
 
-pub creates : (old new : State) (r : Result ℕ Error) → old.now.schema ≡ no_schema → Executes make_text [] old new r → OnOk r (new.now.schema ≡ kept_schema) × OnOk r (new.now.trees 0 ≡ [])
-creates old new (Err e) has h = (tt, tt)
+pub creates : (old new : State) (r : Result ℕ Error) → old.now.schema ≡ no_schema → Executes make_text [] old new r → OnOk r (Holds new.now [] × IsTrue new.is_open)
+creates old new (Err e) has h = tt
 creates old new (Ok count) has h =
     let w = subst (λ t. Writes old new None CreateTable t [] count) make_is.1 (runs_as make_text [] old new no_schema has CreateTable make_is.0 make_plain count h) in
     let all = went w.changed in
@@ -40,7 +42,8 @@ creates old new (Ok count) has h =
     let schema : first.0.schema ≡ kept_schema = made.is ∙ ap (λ s. created s made.table) has ∙ ap (created no_schema) same ∙ schema_is in
     let plain : lacks_sequence first.0.schema ≡ false = ap lacks_sequence schema in
     let now : new.now ≡ first.0 = ap (λ (p : Tally × Database). p.1) (same_value all.2) ∙ same_value (rw plain at first.2) in
-    (ap (λ (d : Database). d.schema) now ∙ schema, ap (λ (d : Database). d.trees 0) now ∙ subst (λ s. first.0.trees (next_tree s) ≡ []) has made.empty)
+    let rows : new.now.trees 0 ≡ [] = ap (λ (d : Database). d.trees 0) now ∙ subst (λ s. first.0.trees (next_tree s) ≡ []) has made.empty in
+    (record { schema = ap (λ (d : Database). d.schema) now ∙ schema; rows = ap map_in rows }, w.shown.is_open)
 
 again_is : command_of (understood kept_schema make_text) ≡ Nothing
 unfolding understood everything

@@ -114,9 +114,9 @@ row_stands (s ∷ rs) m r e (inr later) =
     let t = told_more s rs m e in
     let st = row_stands rs t.rest r t.told later in
     let other : is_eq (key_cmp st.pair.key t.pair.key) ≡ false = false_from_ne_true _ (λ same.
-        let key : st.pair.key ≡ t.pair.key = exact_bytes _ _ (eq_is _ same) in
-        let bad : Some st.pair.value ≡ None = sym st.there ∙ (ap (value_at t.rest) key ∙ t.fresh) in
-        cc) in
+    let key : st.pair.key ≡ t.pair.key = exact_bytes _ _ (eq_is _ same) in
+    let bad : Some st.pair.value ≡ None = sym st.there ∙ (ap (value_at t.rest) key ∙ t.fresh) in
+    cc) in
     record { pair = st.pair; is = st.is; there = ap (λ x. value_at x st.pair.key) t.whole ∙ (put_elsewhere t.rest st.pair.key t.pair.key t.pair.value other ∙ st.there) }
 
 -- the row's name is the key where it passes
@@ -160,7 +160,7 @@ put_new limit params db key value m one t fresh h =
     let trees : one.trees ≡ put.0 = ap (λ (it : Written). it.trees) (same_value put.2) in
     let is : one.trees 0 ≡ put_row (cast Integer (Int (next_rowid (db 0))) ∷ Text key ∷ Text value ∷ []) (db 0) = ap (λ (t : Trees). t 0) trees ∙ applies.rows in
     subst (λ rows. Tells rows (with m key value)) (sym is)
-        (stored_tells m key value (cast Integer (Int (next_rowid (db 0)))) (db 0) t fresh (and_parts _ _ applies.keyed).0 (not-true _ (and_parts _ _ applies.fresh).0))
+    (stored_tells m key value (cast Integer (Int (next_rowid (db 0)))) (db 0) t fresh (and_parts _ _ applies.keyed).0 (not-true _ (and_parts _ _ applies.fresh).0))
 
 -- ---- a row is replaced
 
@@ -178,11 +178,11 @@ one_selected : {Y : Type 0} (p : Row → Bool) (f : Row → Y) (rows : List Row)
 one_selected p f [] r up h yes_it only = absurd h
 one_selected {Y} p f (x ∷ xs) r up (inl same) yes_it only =
     let none : flat_map (λ s. cond (p s) (f s ∷ []) []) xs ≡ [] = none_selected xs (λ s h. false_from_ne_true _ (λ also.
-        let below = all_has _ xs s up.0 h in
-        let is : s ≡ x = only s (inr h) also ∙ same in
-        let bad = rw is at below in
-        let tie = tied_itself value_cmp_total (rowid x) in
-        cc)) in
+    let below = all_has _ xs s up.0 h in
+    let is : s ≡ x = only s (inr h) also ∙ same in
+    let bad = rw is at below in
+    let tie = tied_itself value_cmp_total (rowid x) in
+    cc)) in
     rw (← same, yes_it) (ap (λ l. f r ∷ l) none)
   where
     none_selected : (ys : List Row) → ((s : Row) → Has ys s → p s ≡ false) → flat_map (λ s. cond (p s) (f s ∷ []) []) ys ≡ []
@@ -190,11 +190,11 @@ one_selected {Y} p f (x ∷ xs) r up (inl same) yes_it only =
     none_selected (y ∷ ys) h = rw (h y (inl refl)) (none_selected ys (λ s k. h s (inr k)))
 one_selected p f (x ∷ xs) r up (inr later) yes_it only =
     let other : p x ≡ false = false_from_ne_true _ (λ also.
-        let below = all_has _ xs r up.0 later in
-        let is : x ≡ r = only x (inl refl) also in
-        let bad = rw is at below in
-        let tie = tied_itself value_cmp_total (rowid r) in
-        cc) in
+    let below = all_has _ xs r up.0 later in
+    let is : x ≡ r = only x (inl refl) also in
+    let bad = rw is at below in
+    let tie = tied_itself value_cmp_total (rowid r) in
+    cc) in
     rw other (one_selected p f xs r up.1 later yes_it (λ s h. only s (inr h)))
 
 abbrev pub update_given : Trees → List ℕ → List ℕ → Value → Row
@@ -207,11 +207,11 @@ update_answer db key value r rows n h a =
     let test : Row → Bool = λ s. list_all (holds (given ∷ s ∷ [])) update_query.filter in
     let o : Output = ([], rowid r ∷ rowid r ∷ column r 1 ∷ Text value ∷ []) in
     let tested : (s : Row) → Has (db 0) s → test s ≡ is_eq (value_cmp (rowid s) (rowid r)) = λ s k.
-        ap (λ b. b && true) (ap₂ (λ v w. is_true (binary (Compare Eq Binary) v w)) (int_is (rowid s) (n.ints s k)) (int_is (rowid r) (n.ints r h)) ∙ ids_pass (id_in (rowid s)) (id_in (rowid r)))
-        ∙ (and_true _ ∙ ap₂ (λ v w. is_eq (value_cmp v w)) (sym (int_is (rowid s) (n.ints s k))) (sym (int_is (rowid r) (n.ints r h)))) in
+    ap (λ b. b && true) (ap₂ (λ v w. is_true (binary (Compare Eq Binary) v w)) (int_is (rowid s) (n.ints s k)) (int_is (rowid r) (n.ints r h)) ∙ ids_pass (id_in (rowid s)) (id_in (rowid r)))
+    ∙ (and_true _ ∙ ap₂ (λ v w. is_eq (value_cmp v w)) (sym (int_is (rowid s) (n.ints s k))) (sym (int_is (rowid r) (n.ints r h)))) in
     let own : test r ≡ true = tested r h ∙ ap is_eq (tied_itself value_cmp_total (rowid r)) in
     let selected : flat_map (λ s. cond (test s) ((given ∷ s ∷ []) ∷ []) []) (db 0) ≡ (given ∷ r ∷ []) ∷ [] =
-        one_selected test (λ s. given ∷ s ∷ []) (db 0) r n.rising h own (λ s k yes_it. tied_same (db 0) s r n.rising k h (eq_is _ (sym (tested s k) ∙ yes_it))) in
+    one_selected test (λ s. given ∷ s ∷ []) (db 0) r n.rising h own (λ s k yes_it. tied_same (db 0) s r n.rising k h (eq_is _ (sym (tested s k) ∙ yes_it))) in
     let kept : a.kept ≡ o ∷ [] = a.distinct ∙ ap (map (output update_query)) (a.grouped ∙ selected) in
     let ordered = one_permutation o a.ordered (subst (λ k. IsPermutation k a.ordered) kept a.same) in
     a.shown ∙ ap (map (λ (p : Output). p.1)) ordered
@@ -223,7 +223,7 @@ put_over limit params db key value m one r t there yes_it h =
     let st = row_stands (db 0) m r t.told there in
     let name : column r 1 ≡ Text key = st.is.name ∙ ap Text (named key r st.pair st.is yes_it) in
     let rows : found.0 ≡ (rowid r ∷ rowid r ∷ Text key ∷ Text value ∷ []) ∷ [] =
-        update_answer db key value r found.0 t.ordered there (found.1.answer Null) ∙ ap (λ v. (rowid r ∷ rowid r ∷ v ∷ Text value ∷ []) ∷ []) name in
+    update_answer db key value r found.0 t.ordered there (found.1.answer Null) ∙ ap (λ v. (rowid r ∷ rowid r ∷ v ∷ Text value ∷ []) ∷ []) name in
     let put = went found.2 in
     let edit = edit_of db kept (ids_of found.0) Given 1 found.0 in
     let applies = one_step kept_schema Enforced db put.0 edit refl put.1 in
@@ -267,7 +267,7 @@ upserted limit db key value m one t h = go h.0 h.1 h.2
         let r = are.sound there (inl refl) in
         let id : rowid there ≡ rowid r.0 = ap rowid r.3 in
         put_over limit params db key value m one r.0 t r.1 (sym (meets db key value r.0) ∙ r.2)
-            (subst (λ v. Updates (kept_task limit params) (record { lets = []; body = update_query }) (update_given db key value v) db (Ok one)) id h)
+        (subst (λ v. Updates (kept_task limit params) (record { lets = []; body = update_query }) (update_given db key value v) db (Ok one)) id h)
 
 tried : (limit : Option ℕ) (db : Trees) (key value : List ℕ) (m : List Pair) (one : Written) → Tells (db 0) m
     → Tries (kept_task limit (Text key ∷ Text value ∷ [])) Abort (put_clause ∷ []) (new_row db key value) db (Ok one) → Tells (one.trees 0) (with m key value)

@@ -78,8 +78,8 @@ removed_ids db key found a =
     record { staged = a.staged; grouped = a.grouped; kept = a.kept; distinct = a.distinct; ordered = a.ordered; same = a.same; sorted = a.sorted; shown = a.shown } in
     let are : AreFound remove_query.filter (db 0) (Text key ∷ []) found = found_rowids 0 remove_query.filter (overlay db []) (Text key ∷ []) found plainly in
     ids_found (passes key) (db 0) found
-        (λ x h. let r = are.sound x h in (r.0, r.1, (and_parts _ _ r.2).0, r.3))
-        (λ r h yes_it. are.complete r h (and_from _ _ yes_it refl))
+    (λ x h. let r = are.sound x h in (r.0, r.1, (and_parts _ _ r.2).0, r.3))
+    (λ r h yes_it. are.complete r h (and_from _ _ yes_it refl))
 
 pub removes : (old new : State) (key : List ℕ) (m : List Pair) (count : ℕ) → Holds old.now m → Executes remove_text (Text key ∷ []) old new (Ok count) → Holds new.now (without m key)
 removes old new key m count holds h =

@@ -9,6 +9,7 @@ ghost use Rattle.sqlite.specs.Held.{state};
 ghost use Rattle.ep_outside.specs.Kept.{after, key_cmp, listed, put_in, value_at, with, without};
 ghost use Rattle.ep_outside.specs.declared.keeper.Pair.{Pair};
 ghost use Rattle.ep_keep_sql.specs.Inside.{Finds, IsSettled, Makes, Rests, Steps};
+ghost use Rattle.ep_keep_sql.specs.Keeps.{Goes};
 ghost use Rattle.ep_keep_sql.specs.KeptTable.{kept_schema, no_schema};
 ghost use Rattle.ep_keep_sql.specs.Told.{Holds, ShowsListed, shows};
 
@@ -37,9 +38,8 @@ const OUT_OF_MEMORY: Error = Error::SqliteFailure(ErrorCode::OutOfMemory);
 
 /// Makes the table where it is not there yet.
 pub fn make_table<S: Alter>(conn: &mut Connection<S>) -> Result<(), Error>
-    ensures schema { HasCleanDisk (state S.Store conn.new) → (state S.Store conn.old).now.schema ≡ no_schema → IfOk result (λ _. (state S.Store conn.new).now.schema ≡ kept_schema) }
-    ensures empty { HasCleanDisk (state S.Store conn.new) → (state S.Store conn.old).now.schema ≡ no_schema → IfOk result (λ _. (state S.Store conn.new).now.trees 0 ≡ []) }
-    ensures again { HasCleanDisk (state S.Store conn.new) → (state S.Store conn.old).now.schema ≡ kept_schema → IfOk result (λ _. IsUnchanged (state S.Store conn.old) (state S.Store conn.new)) }
+    ensures made { HasCleanDisk (state S.Store conn.new) → (state S.Store conn.old).now.schema ≡ no_schema → OnOk result (Holds (state S.Store conn.new).now [] × IsTrue (state S.Store conn.new).is_open) }
+    ensures again { HasCleanDisk (state S.Store conn.new) → (state S.Store conn.old).now.schema ≡ kept_schema → OnOk result (IsUnchanged (state S.Store conn.old) (state S.Store conn.new)) }
 {
     match conn.execute(MAKE, &[]) {
         Ok(_) => Ok(()),
@@ -59,6 +59,7 @@ fn settled<S: Alter>(conn: &Connection<S>) -> Result<(), Error>
 }
 
 fn row_of<S: Alter>(conn: &mut Connection<S>, key: &str) -> Result<Row, Error>
+    ensures goes { Goes (state S.Store conn.old) (state S.Store conn.new) }
     ensures row { HasCleanDisk (state S.Store conn.new) → (m : List Pair) → Holds (state S.Store conn.old).now m → Finds m key.now result }
     ensures same { (m : List Pair) → Holds (state S.Store conn.old).now m → IsSettled (state S.Store conn.old) → Rests (state S.Store conn.old) (state S.Store conn.new) }
 {
@@ -67,6 +68,7 @@ fn row_of<S: Alter>(conn: &mut Connection<S>, key: &str) -> Result<Row, Error>
 
 /// What stands under a key.
 pub fn value_of<S: Alter>(conn: &mut Connection<S>, key: &str) -> Result<Option<Text>, Error>
+    ensures goes { Goes (state S.Store conn.old) (state S.Store conn.new) }
     ensures value { HasCleanDisk (state S.Store conn.new) → (m : List Pair) → Holds (state S.Store conn.old).now m → IfOk result (λ v. v ≡ value_at m key.now) }
     ensures same { (m : List Pair) → Holds (state S.Store conn.old).now m → Rests (state S.Store conn.old) (state S.Store conn.new) }
 {
@@ -128,6 +130,7 @@ fn put_each<S: Alter>(transaction: &mut Transaction<'_, S>, puts: &[Put]) -> Res
 
 /// Puts all of them as one transaction, or none.
 pub fn put_all<S: Alter>(conn: &mut Connection<S>, puts: &[Put]) -> Result<(), Error>
+    ensures goes { Goes (state S.Store conn.old) (state S.Store conn.new) }
     ensures all { HasCleanDisk (state S.Store conn.new) → (m : List Pair) → Holds (state S.Store conn.old).now m → OnOk result (Holds (state S.Store conn.new).now (after m puts.now)) }
     ensures committed { HasCleanDisk (state S.Store conn.new) → OnOk result ((state S.Store conn.new).committed ≡ (state S.Store conn.new).now) }
     ensures none { HasCleanDisk (state S.Store conn.new) → IsTrue (state S.Store conn.new).is_open
@@ -171,6 +174,7 @@ fn pairs_in(alloc: Global, rows: &[Row], prefix: &str) -> Result<Pairs, Error>
 }
 
 fn rows_from<S: Alter>(conn: &mut Connection<S>, prefix: &str) -> Result<Vec<Row>, Error>
+    ensures goes { Goes (state S.Store conn.old) (state S.Store conn.new) }
     ensures rows { HasCleanDisk (state S.Store conn.new) → (m : List Pair) → Holds (state S.Store conn.old).now m → IfOk result (λ rows. ShowsListed m prefix.now rows.items) }
     ensures same { (m : List Pair) → Holds (state S.Store conn.old).now m → IsSettled (state S.Store conn.old) → Rests (state S.Store conn.old) (state S.Store conn.new) }
 {
@@ -182,6 +186,7 @@ fn rows_between<S: Alter>(
     prefix: &str,
     end: &str,
 ) -> Result<Vec<Row>, Error>
+    ensures goes { Goes (state S.Store conn.old) (state S.Store conn.new) }
     ensures rows { ((n : List ℕ) → starts_with nat_eq n prefix.now ≡ true → key_cmp n end.now ≡ Ordering.Less) → HasCleanDisk (state S.Store conn.new)
         → (m : List Pair) → Holds (state S.Store conn.old).now m → IfOk result (λ rows. ShowsListed m prefix.now rows.items) }
     ensures same { (m : List Pair) → Holds (state S.Store conn.old).now m → IsSettled (state S.Store conn.old) → Rests (state S.Store conn.old) (state S.Store conn.new) }
@@ -195,6 +200,7 @@ fn rows_with<S: Alter>(
     alloc: Global,
     prefix: &str,
 ) -> Result<Vec<Row>, Error>
+    ensures goes { Goes (state S.Store conn.old) (state S.Store conn.new) }
     ensures rows { HasCleanDisk (state S.Store conn.new) → (m : List Pair) → Holds (state S.Store conn.old).now m → IfOk result (λ rows. ShowsListed m prefix.now rows.items) }
     ensures same { (m : List Pair) → Holds (state S.Store conn.old).now m → IsSettled (state S.Store conn.old) → Rests (state S.Store conn.old) (state S.Store conn.new) }
 {
@@ -213,6 +219,7 @@ pub fn pairs_with<S: Alter>(
     alloc: Global,
     prefix: &str,
 ) -> Result<Pairs, Error>
+    ensures goes { Goes (state S.Store conn.old) (state S.Store conn.new) }
     ensures pairs { HasCleanDisk (state S.Store conn.new) → (m : List Pair) → Holds (state S.Store conn.old).now m → IfOk result (λ pairs. pairs ≡ listed m prefix.now) }
     ensures same { (m : List Pair) → Holds (state S.Store conn.old).now m → Rests (state S.Store conn.old) (state S.Store conn.new) }
 {

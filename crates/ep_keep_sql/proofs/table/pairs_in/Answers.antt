@@ -15,4 +15,4 @@ loop-row-preserved c = λ ps is.
     let pair : c.in_ok-pair_in.field-0 ≡ next.0 = c.in_ok-pair_in.ensures next.0 next.1 in
     let pushed : c.push_listed.new.items.items ≡ items ++ listed (next.0 ∷ []) prefix = c.in_ok-push_listed.ensures ∙ ap (λ p. items ++ listed (p ∷ []) prefix) pair in
     ap (λ l. l ++ rest) pushed ∙ (append_assoc items (listed (next.0 ∷ []) prefix) rest
-        ∙ (ap (λ l. items ++ l) (sym (listed_first next.0 (drop (i + 1) ps) prefix)) ∙ (ap (λ l. items ++ listed l prefix) (sym next.2) ∙ c.loop-row.invariant ps is)))
+    ∙ (ap (λ l. items ++ l) (sym (listed_first next.0 (drop (i + 1) ps) prefix)) ∙ (ap (λ l. items ++ listed l prefix) (sym next.2) ∙ c.loop-row.invariant ps is)))

@@ -14,5 +14,5 @@ invariant-loop-put g l = record {
   same_reference : l.transaction.conn.ghost_name ≡ l.initial.transaction.conn.ghost_name;
   steps : StepsInside (state g.S.Store l.initial.transaction.conn.now) (state g.S.Store l.transaction.conn.now) true;
   makes : HasCleanDisk (state g.S.Store l.transaction.conn.now) → IsTrue (state g.S.Store l.initial.transaction.conn.now).in_transaction → (m : List Pair) → Holds (state g.S.Store l.initial.transaction.conn.now).now m
-    → (n : List Pair) × Holds (state g.S.Store l.transaction.conn.now).now n × (after m l.puts ≡ after n (drop l.put-index l.puts));
+      → (n : List Pair) × Holds (state g.S.Store l.transaction.conn.now).now n × (after m l.puts ≡ after n (drop l.put-index l.puts));
 }

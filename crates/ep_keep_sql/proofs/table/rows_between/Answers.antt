@@ -6,6 +6,7 @@ use Rattle.sqlite.specs.Held.{state}
 use Rattle.sqlite.specs.State.{FailsToQuery, Shown}
 use Rattle.ep_keep_sql.specs.Told.{ShowsListed}
 use Rattle.ep_keep_sql.proofs.Listings.{between_all, if_ok}
+use Rattle.ep_keep_sql.proofs.Goes.{rows_go}
 use Rattle.ep_keep_sql.proofs.Statements.{rows_rest}
 use Rattle.ep_keep_sql.proofs.Texts.{between_text, between_plain}
 use Rattle.ep_keep_sql.proofs.table.rows_between.Goals as goal
@@ -24,3 +25,6 @@ returns-clause-same g c = λ m holds settled clean open_now.
     let ok : IfOk c.query_all.result (λ rows. Shown between_text (value.Text c.args.prefix.now ∷ value.Text c.args.end.now ∷ []) old new rows.items) = rw (c.params-to_sql.ensures, c.params-to_sql-2.ensures) at (c.query_all.ensures.ok clean) in
     let err : IfErr c.query_all.result (FailsToQuery between_text (value.Text c.args.prefix.now ∷ value.Text c.args.end.now ∷ []) old new) = rw (c.params-to_sql.ensures, c.params-to_sql-2.ensures) at (c.query_all.ensures.err clean) in
     rows_rest (λ rows. rows.items) between_text between_plain old new (value.Text c.args.prefix.now ∷ value.Text c.args.end.now ∷ []) c.query_all.result holds.schema settled ok err clean open_now
+
+pub returns-clause-goes : goal.returns-clause-goes
+returns-clause-goes g c = rows_go (λ rows. rows.items) _ _ _ _ c.query_all.result c.query_all.ensures.survives.clean c.query_all.ensures.ok c.query_all.ensures.err

@@ -6,6 +6,7 @@ use Rattle.sqlite.specs.Held.{state}
 use Rattle.sqlite.specs.State.{FailsToQuery, Shown}
 use Rattle.ep_keep_sql.specs.Told.{ShowsListed}
 use Rattle.ep_keep_sql.proofs.Listings.{from_all, if_ok}
+use Rattle.ep_keep_sql.proofs.Goes.{rows_go}
 use Rattle.ep_keep_sql.proofs.Statements.{rows_rest}
 use Rattle.ep_keep_sql.proofs.Texts.{from_text, from_plain}
 use Rattle.ep_keep_sql.proofs.table.rows_from.Goals as goal
@@ -24,3 +25,6 @@ returns-clause-same g c = λ m holds settled clean open_now.
     let ok : IfOk c.query_all.result (λ rows. Shown from_text (value.Text c.args.prefix.now ∷ []) old new rows.items) = rw c.params-to_sql.ensures at (c.query_all.ensures.ok clean) in
     let err : IfErr c.query_all.result (FailsToQuery from_text (value.Text c.args.prefix.now ∷ []) old new) = rw c.params-to_sql.ensures at (c.query_all.ensures.err clean) in
     rows_rest (λ rows. rows.items) from_text from_plain old new (value.Text c.args.prefix.now ∷ []) c.query_all.result holds.schema settled ok err clean open_now
+
+pub returns-clause-goes : goal.returns-clause-goes
+returns-clause-goes g c = rows_go (λ rows. rows.items) _ _ _ _ c.query_all.result c.query_all.ensures.survives.clean c.query_all.ensures.ok c.query_all.ensures.err

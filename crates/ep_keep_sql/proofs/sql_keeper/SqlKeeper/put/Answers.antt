@@ -1,0 +1,21 @@
+use Rattle.std.proofs.Common.{Some}
+use Rattle.ep_keep_sql.proofs.Keeping.{err_none, ok_puts, put_kept, told_in_order}
+use Rattle.ep_keep_sql.proofs.sql_keeper.SqlKeeper.put.Goals as goal
+
+pub invariant_of-self : goal.invariant_of-self
+invariant_of-self g c =
+    let self = c.args.self.now in
+    record {
+      kept = put_kept g.S.Store self.first.value self.conn c.in-Some.conn c.put_all.new.conn c.in-Some.is c.put_all.ensures.goes self.kept c.args.puts.now c.put_all.result c.put_all.ensures.all c.put_all.ensures.none;
+      rising = told_in_order g.S.Store self.first.value (Some c.put_all.new.conn);
+    }
+
+pub returns-in-Some-clause-ok : goal.returns-in-Some-clause-ok
+returns-in-Some-clause-ok g c =
+    let self = c.args.self.now in
+    ok_puts g.S.Store self.first.value self.conn c.in-Some.conn c.put_all.new.conn c.in-Some.is c.put_all.ensures.goes self.kept c.args.puts.now c.put_all.result c.put_all.ensures.all
+
+pub returns-in-Some-clause-err : goal.returns-in-Some-clause-err
+returns-in-Some-clause-err g c =
+    let self = c.args.self.now in
+    err_none g.S.Store self.first.value self.conn c.in-Some.conn c.put_all.new.conn c.in-Some.is c.put_all.ensures.goes self.kept c.args.puts.now c.put_all.result c.put_all.ensures.none

@@ -1,0 +1,23 @@
+use Rattle.std.proofs.Common.{Some}
+use Rattle.sqlite.specs.Held.{state}
+use Rattle.ep_keep_sql.proofs.Keeping.{err_stays, kept_on, ok_gets, rests_turns, told_in_order}
+use Rattle.ep_keep_sql.proofs.sql_keeper.SqlKeeper.value.Goals as goal
+
+pub invariant_of-self : goal.invariant_of-self
+invariant_of-self g c =
+    let self = c.args.self.now in
+    let k = c.value_of.new.conn in
+    record {
+      kept = kept_on g.S.Store self.first.value self.conn c.in-Some.conn k c.in-Some.is c.value_of.ensures.goes self.kept (λ m. m) (rests_turns (state g.S.Store c.in-Some.conn) (state g.S.Store c.value_of.new.conn) c.value_of.ensures.same);
+      rising = told_in_order g.S.Store self.first.value (Some k);
+    }
+
+pub returns-in-Some-clause-value : goal.returns-in-Some-clause-value
+returns-in-Some-clause-value g c =
+    let self = c.args.self.now in
+    ok_gets g.S.Store self.first.value self.conn c.in-Some.conn c.value_of.new.conn c.in-Some.is c.value_of.ensures.goes self.kept c.value_of.result c.args.key.now (rests_turns (state g.S.Store c.in-Some.conn) (state g.S.Store c.value_of.new.conn) c.value_of.ensures.same) c.value_of.ensures.value
+
+pub returns-in-Some-clause-err : goal.returns-in-Some-clause-err
+returns-in-Some-clause-err g c =
+    let self = c.args.self.now in
+    err_stays g.S.Store self.first.value self.conn c.in-Some.conn c.value_of.new.conn c.in-Some.is c.value_of.ensures.goes self.kept c.value_of.result (rests_turns (state g.S.Store c.in-Some.conn) (state g.S.Store c.value_of.new.conn) c.value_of.ensures.same)

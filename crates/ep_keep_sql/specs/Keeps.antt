@@ -1,0 +1,73 @@
+-- What a keeper over a connection tells, and what its calls keep true.
+use Rattle.std.specs.Prelude.{◌≡◌, ◌≤◌, ◌==◌, ◌&&◌, Bool, true, false, IsTrue, List, Option, None, Some, is_some, if◌then◌else◌}
+use base.Stored.{Gv, gnil, gnum, gcons}
+use Rattle.std.specs.Coded.{Coded-set, Unit-prop, coded_bool}
+use Rattle.sqlite.specs.View.{doubt}
+use Rattle.sqlite.specs.State.{State, HasCleanDisk}
+use Rattle.sqlite.specs.Held.{Held, state}
+use Rattle.sqlite.specs.Schema.{Schema}
+use Rattle.sqlite.specs.Store.{Ghosts}
+use Rattle.sqlite_schema.specs.contracts.schema.Schema.{the_row}
+use Rattle.ep_outside.specs.declared.keeper.Pair.{Pair}
+use Rattle.ep_outside.specs.Kept.{rises, Rises}
+use Rattle.ep_keep_sql.specs.KeptTable.{kept_schema}
+use Rattle.ep_keep_sql.specs.Told.{map_in}
+
+abbrev pub same_code : Gv → Gv → Bool
+same_code gnil gnil = true
+same_code gnil (gnum n) = false
+same_code gnil (gcons c d) = false
+same_code (gnum m) gnil = false
+same_code (gnum m) (gnum n) = m == n
+same_code (gnum m) (gcons c d) = false
+same_code (gcons a b) gnil = false
+same_code (gcons a b) (gnum n) = false
+same_code (gcons a b) (gcons c d) = same_code a c && same_code b d
+
+-- whether a schema is ours, by the codes of the two, which are one to one
+unfoldable pub is_ours : Schema → Bool
+is_ours schema = same_code (the_row.coded.code schema) (the_row.coded.code kept_schema)
+
+abbrev pub serves : State → Bool
+serves s = s.is_open && s.is_clean
+
+-- what a connection tells while it is open and clean: the map of the rows, where the schema is ours
+abbrev pub map_of : State → Option (List Pair)
+map_of s = if serves s && is_ours s.now.schema then map_in (s.now.trees 0) else None
+
+-- whether it told a map as the keeper was made
+abbrev pub began_well : {S : Type 0} → Ghosts S → Option (Held S) → Bool
+began_well g None = false
+began_well g (Some h) = is_some (map_of (state g h))
+
+-- a keeper tells what its connection tells, if it told a map at the beginning
+abbrev pub told_of : {S : Type 0} → Ghosts S → Option (Held S) → Option (Held S) → Option (List Pair)
+told_of g first None = None
+told_of g first (Some h) = if began_well g first then map_of (state g h) else None
+
+-- then it tells one whenever it is open and clean
+abbrev pub is_kept : Bool → State → Bool
+is_kept well s = if well && serves s then is_some (map_of s) else true
+
+abbrev pub is_kept_at : {S : Type 0} → Ghosts S → Bool → Option (Held S) → Bool
+is_kept_at g well None = true
+is_kept_at g well (Some h) = is_kept well (state g h)
+
+-- a map that is told rises
+abbrev pub rises_if : Option (List Pair) → Bool
+rises_if None = true
+rises_if (Some m) = rises m
+
+pub rises_told : (o : Option (List Pair)) → rises_if o ≡ true → Rises o
+rises_told None h = tt
+rises_told (Some m) h = h
+
+-- that has one proof
+pub Rises-prop : (o : Option (List Pair)) → IsProp (Rises o)
+Rises-prop None = Unit-prop
+Rises-prop (Some m) = Coded-set coded_bool (rises m) true
+
+-- no lie of the disk is forgotten, and a connection that was shut stays so
+pub record Goes (old new : State) : Type 0 where
+  pub clean : doubt old.is_clean ≤ doubt new.is_clean
+  pub was_open : HasCleanDisk new → IsTrue new.is_open → IsTrue old.is_open
