@@ -65,13 +65,13 @@ read_all (Err SourceFault) P h e = absurd (omega (arith, e))
 read_all (Err SinkFault) P h e = absurd (omega (arith, e))
 read_all (Err Failed) P h e = absurd (omega (arith, e))
 
-no-end : {W : Type 0} (bad : PlayBad) → IsEnd (code_of {W = W} (Err bad)) → ⊥
-no-end SourceFault (inl k) = omega (arith, k)
-no-end SourceFault (inr k) = omega (arith, k)
-no-end SinkFault (inl k) = omega (arith, k)
-no-end SinkFault (inr k) = omega (arith, k)
-no-end Failed (inl k) = omega (arith, k)
-no-end Failed (inr k) = omega (arith, k)
+no-end : (W : Type 0) (bad : PlayBad) → IsEnd (code_of {W = W} (Err bad)) → ⊥
+no-end W SourceFault (inl k) = omega (arith, k)
+no-end W SourceFault (inr k) = omega (arith, k)
+no-end W SinkFault (inl k) = omega (arith, k)
+no-end W SinkFault (inr k) = omega (arith, k)
+no-end W Failed (inl k) = omega (arith, k)
+no-end W Failed (inr k) = omega (arith, k)
 
 -- an empty file stands for no records
 pub holds_nothing : (o : Option Contents) (bytes : List ℕ) → o ≡ Some (settled bytes) → bytes ≡ [] → Holds o []
@@ -83,7 +83,7 @@ module _ {D : Type 0} (told : D → Option Contents) (failures : D → ℕ) (id 
       → (out : List ℕ) × IsTranscript id script out (code_of r) × Takes held now out
   writes script (Ok (Some w)) h k = (h.1.0, (h.0, h.1.1), h.1.2)
   writes script (Ok None) h k = (h.1.0, (h.0, h.1.1), h.1.2)
-  writes script (Err bad) h k = absurd (no-end {W = World D} bad k)
+  writes script (Err bad) h k = absurd (no-end (World D) bad k)
 
   part : (script : List ℕ) (r : Result (Option (World D)) PlayBad) → EndsLines told failures (opening id) (reads_of script) held now r
       → (out : List ℕ) × (code : ℕ) × IsTranscript id script out code × TakesPart held now out
@@ -105,11 +105,11 @@ module _ {D : Type 0} (told : D → Option Contents) (failures : D → ℕ) (id 
   -- of what the source had left
   pub ends_writes : (left : Option (List ℕ)) (r : Result (Option (World D)) PlayBad) → EndsScript told failures (opening id) left held now r → IsEnd (code_of r) → Writes id left held now (code_of r)
   ends_writes (Some script) r h k = writes script r h k
-  ends_writes None r h k = (h.0, writes h.0 r h.1 k)
+  ends_writes None r h k = let x = writes h.0 r h.1 k in (h.0, x.0, x.1, x.2)
 
   pub ends_part : (left : Option (List ℕ)) (r : Result (Option (World D)) PlayBad) → EndsScript told failures (opening id) left held now r → WritesPart id left held now
   ends_part (Some script) r h = part script r h
-  ends_part None r h = (h.0, part h.0 r h.1)
+  ends_part None r h = let x = part h.0 r h.1 in (h.0, x.0, x.1, x.2, x.3)
 
   pub ends_made : (left : Option (List ℕ)) (r : Result (Option (World D)) PlayBad) → EndsScript told failures (opening id) left held now r → IfSome (world_of r) (IsMadeOf told failures id left held now)
   ends_made (Some script) (Ok (Some w)) h = made script w h

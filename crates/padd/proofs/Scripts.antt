@@ -1,5 +1,5 @@
 -- A script that is read and played line by line.
-use Rattle.std.proofs.Common.{◌≡◌, ℕ, ◌+◌, true, List, [], ◌∷◌, ◌++◌, Option, Some, None, refl, sym, ap, ◌∙◌, subst, append_assoc}
+use Rattle.std.proofs.Common.{◌≡◌, ℕ, ◌+◌, true, false, List, [], ◌∷◌, ◌++◌, Option, Some, None, refl, sym, ap, ◌∙◌, subst, append_assoc}
 use Rattle.std.specs.Prelude.{Result, Ok, Err, String}
 use Rattle.std.specs.String.{string_bytes}
 use Rattle.std.specs.declared.alloc.Global.{Global}
@@ -42,6 +42,21 @@ some-more : (u : Unread) (a : Option (List ℕ)) → (u.is_over ≡ true → IsA
 some-more u None h = ([], record { over = λ o. refl; told = tt })
 some-more u (Some xs) h = (xs, record { over = h; told = refl })
 
+-- what comes next, whatever follows
+abbrev pub Nexts : Unread → Unread → Option (List ℕ) → Option (List ℕ) → List ℕ → Result (Option ScriptLine) ScriptBad → Type 0
+Nexts old new a b piece r = (more : List ℕ) → MayFollow new b more → MayFollow old a (piece ++ more) × IsNext old piece new more r
+
+empty-behind : (xs ys zs : List ℕ) → xs ++ (ys ++ zs) ≡ [] → zs ≡ []
+empty-behind [] [] zs e = e
+empty-behind [] (y ∷ ys) zs e = cc
+empty-behind (x ∷ xs) ys zs e = cc
+
+-- behind the last line nothing is left
+pub at-end : (u new : Unread) (a b : Option (List ℕ)) (piece : List ℕ) → (new.is_over ≡ true → IsAtEnd b)
+    → ((more : List ℕ) → MayFollow new b more → MayFollow u a (piece ++ more) × IsNext u piece new more (Ok None)) → IsAtEnd b
+at-end u new a None piece over n = tt
+at-end u new a (Some ys) piece over n = empty-behind u.held piece ys (n ys (record { over = over; told = refl })).1
+
 -- ---- the line that is cut off
 
 not-long : (place : ℕ) (row : Row) (bytes : List ℕ) → is_long place row ≡ false → bytes ≡ said row → read_at place row ≡ line_read (line_of bytes)
@@ -83,6 +98,9 @@ module _ {D : Type 0} (told : D → Option Contents) (failures : D → ℕ) wher
         (begun told failures stage s held (reads_of more) h);
   }
 
+  pub script-as : (first : Scene) (a held now : Option (List ℕ)) (r q : Result (Option (World D)) PlayBad) → r ≡ q → EndsScript told failures first a held now q → EndsScript told failures first a held now r
+  script-as first a held now r q is h = subst (λ r. EndsScript told failures first a held now r) (sym is) h
+
   -- a line passes where it wrote something
   passes : (k : ℕ) (s : Scene) (line : ScriptLine) (text : String Global) (new : Stage D) (u : Unread) (more : List ℕ) (reads : List (Result Line Reason))
       → PlaysLine told failures k s (cut_read line) (Ok text) new → Behind line u more reads → reads ≡ reads_at u.place (rows_of (u.held ++ more))
@@ -107,9 +125,6 @@ module _ {D : Type 0} (told : D → Option Contents) (failures : D → ℕ) wher
 
   -- behind a piece that was read
   module _ (stage : Stage D) (u new-u : Unread) (first : Scene) (a b c held now : Option (List ℕ)) (k : ℕ) (piece : List ℕ) (p : IsRead stage u first a b held now k) (g : Gives b c piece) where
-    Nexts : Result (Option ScriptLine) ScriptBad → Type 0
-    Nexts r = (more : List ℕ) → MayFollow new-u c more → MayFollow u b (piece ++ more) × IsNext u piece new-u more r
-
     module _ (over : new-u.is_over ≡ true → IsAtEnd c) where
       some-end : (more : List ℕ) × MayFollow new-u c more
       some-end = some-more new-u c over

@@ -1,5 +1,5 @@
 -- How the lines of a script end.
-use Rattle.std.specs.Prelude.{ℕ, List, Option, Some, None, Result, Ok, Err}
+use Rattle.std.specs.Prelude.{ℕ, Bool, true, false, List, Option, Some, None, Result, Ok, Err}
 use Rattle.ep_outside.specs.Disk.{Contents}
 use Rattle.ep_outside.specs.Outside.{Takes, TakesPart}
 use Rattle.ep_script.specs.declared.line.Line.{Line}
@@ -26,6 +26,12 @@ module _ {D : Type 0} (told : D → Option Contents) (failures : D → ℕ) wher
   abbrev pub EndsScript : Scene → Option (List ℕ) → Option (List ℕ) → Option (List ℕ) → Result (Option (World D)) PlayBad → Type 0
   EndsScript s (Some script) held now r = EndsLines s (reads_of script) held now r
   EndsScript s None held now r = (script : List ℕ) × EndsLines s (reads_of script) held now r
+
+-- the answer of one that keeps the world: whether all were played
+abbrev pub with_world : {W : Type 0} → W → Result Bool PlayBad → Result (Option W) PlayBad
+with_world world (Ok true) = Ok (Some world)
+with_world world (Ok false) = Ok None
+with_world world (Err bad) = Err bad
 
 -- the status then
 abbrev pub code_of : {W : Type 0} → Result (Option W) PlayBad → ℕ

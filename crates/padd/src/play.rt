@@ -1,9 +1,9 @@
 //! A script, played on a pad of its own.
 
-ghost use Rattle.std.specs.Prelude.{◌≡◌, ◌≢◌, ◌≤◌, ◌⊎◌, ◌↔◌, ◌∷◌, [], false, true, length, Contains, IfSome, IsSome, OnErr, OnOk, IsErrOf};
+ghost use Rattle.std.specs.Prelude.{◌≡◌, ◌≢◌, ◌≤◌, ◌⊎◌, ◌↔◌, ◌∷◌, [], false, true, length, Contains, IfOk, IfSome, IsSome, OnErr, OnOk, IsErrOf};
 ghost use Rattle.ep_outside.specs.Outside.{HasCause, HasRisen, IsAtEnd, Takes, TakesPart};
 ghost use Rattle.ep_units.specs.PadId.{has_group};
-ghost use Rattle.padd.specs.Ending.{EndsScript, code_of, world_of};
+ghost use Rattle.padd.specs.Ending.{EndsScript, code_of, with_world, world_of};
 ghost use Rattle.padd.specs.Play.{Scene, error_line, opening};
 ghost use Rattle.padd.specs.Played.{IsStage};
 ghost use Rattle.padd.specs.Run.{IsEnd, IsMadeOf, Writes, WritesPart};
@@ -98,6 +98,7 @@ impl From<ScriptBad> for PlayBad {
 fn end<K: Sink>(alloc: Global, k: u64, reason: Reason, sink: &mut K) -> Result<(), PlayBad>
     ensures whole { OnOk result (Takes (K.held sink.old) (K.held sink.new) (error_line k reason)) }
     ensures part { OnErr result (TakesPart (K.held sink.old) (K.held sink.new) (error_line k reason)) }
+    ensures unread { IsErrOf result PlayBad.SourceFault → ⊥ }
     ensures cause { IsErrOf result PlayBad.SinkFault → HasRisen (K.failures sink.old) (K.failures sink.new) }
     ensures later { K.failures sink.old ≤ K.failures sink.new }
     ensures steady { K.is_steady sink.new ≡ K.is_steady sink.old }
@@ -107,16 +108,16 @@ fn end<K: Sink>(alloc: Global, k: u64, reason: Reason, sink: &mut K) -> Result<(
     Ok(())
 }
 
-/// Plays the lines that the source has left, and answers the world where all were played.
+/// Plays the lines that the source has left, and answers whether all were played.
 fn play_lines<D: Crash + Drop, S: Source, K: Sink>(
     alloc: Global,
-    mut stage: Stage<D>,
+    stage: &mut Stage<D>,
     source: &mut S,
     sink: &mut K,
-) -> Result<Option<World<D>>, PlayBad>
-    ensures ends { (s : Scene) → IsStage D.told D.failures stage s
-        → EndsScript D.told D.failures s (S.left source.old) (K.held sink.old) (K.held sink.new) result }
-    ensures read { IfOk result (λ world. IsSome world → IsAtEnd (S.left source.new)) }
+) -> Result<bool, PlayBad>
+    ensures ends { (s : Scene) → IsStage D.told D.failures stage.old s
+        → EndsScript D.told D.failures s (S.left source.old) (K.held sink.old) (K.held sink.new) (with_world stage.new.world result) }
+    ensures read { IfOk result (λ all. all ≡ true → IsAtEnd (S.left source.new)) }
     ensures source_fault { HasCause (S.failures source.old) (S.failures source.new) (S.is_steady source.old) (S.is_steady source.new) (IsErrOf result PlayBad.SourceFault) }
     ensures sink_fault { IsErrOf result PlayBad.SinkFault → HasRisen (K.failures sink.old) (K.failures sink.new) }
     ensures later { K.failures sink.old ≤ K.failures sink.new }
@@ -125,14 +126,13 @@ fn play_lines<D: Crash + Drop, S: Source, K: Sink>(
     let mut script = Script::new(alloc);
     for k in 1..u64::MAX {
         let Some(line) = script.next_line(source)? else {
-            let Stage { world, pool: _ } = stage;
-            return Ok(Some(world));
+            return Ok(true);
         };
-        match stage.play_cut(alloc, k, &line) {
+        match stage.play_cut(alloc, k, line) {
             Ok(text) => sink.write(text.as_bytes())?,
             Err(Stop::At(reason)) => {
                 end(alloc, k, reason, sink)?;
-                return Ok(None);
+                return Ok(false);
             }
             Err(Stop::Failed) => return Err(PlayBad::Failed),
         }
@@ -154,8 +154,13 @@ fn play_script<S: Source, K: Sink>(
     ensures steady { K.is_steady sink.new ≡ K.is_steady sink.old }
 {
     let disk = MemDisk::new(alloc, Vec::new(alloc), Vec::new(alloc))?;
-    let stage = Stage::new(alloc, disk, id)?;
-    play_lines(alloc, stage, source, sink)
+    let mut stage = Stage::new(alloc, disk, id)?;
+    let all = play_lines(alloc, &mut stage, source, sink)?;
+    if !all {
+        return Ok(None);
+    }
+    let Stage { world, pool: _ } = stage;
+    Ok(Some(world))
 }
 
 /// What was played.

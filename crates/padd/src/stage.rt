@@ -104,11 +104,11 @@ impl<D: Crash> Stage<D> {
     }
 
     /// Plays line k, at the moment k, and answers what it writes.
-    pub fn play_cut(&mut self, alloc: Global, k: u64, line: &ScriptLine) -> Result<String, Stop>
-        ensures { (s : Scene) → IsStage D.told D.failures self.old s → PlaysLine D.told D.failures k s (cut_read line.now) result self.new }
+    pub fn play_cut(&mut self, alloc: Global, k: u64, line: ScriptLine) -> Result<String, Stop>
+        ensures { (s : Scene) → IsStage D.told D.failures self.old s → PlaysLine D.told D.failures k s (cut_read line) result self.new }
     {
         match line {
-            ScriptLine::Text(bytes) => self.play_line(alloc, k, bytes),
+            ScriptLine::Text(bytes) => self.play_line(alloc, k, &bytes),
             ScriptLine::Long => Err(Stop::At(Reason::Long)),
         }
     }

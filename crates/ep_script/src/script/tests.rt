@@ -34,7 +34,7 @@ impl<'a> Source for Pieces<'a> {
     ghost left = { λ p. Some p.left.now };
 
     fn read(&mut self, room: &mut [u8]) -> Got {
-        let n = self.left.len().min(room.len()).min(self.most);
+        let n = self.left.len().min(room.len()).min(self.most.max(1));
         if n == 0 {
             if self.is_broken {
                 self.faults = self.faults.saturating_add(1);

@@ -1,4 +1,6 @@
-use Rattle.std.proofs.Common.{rules}
+use Rattle.std.proofs.Common.{◌≡◌, Ok, Err, true, false, sym, ap, ◌∙◌, rules}
+use Rattle.padd.specs.Ending.{with_world}
+use Rattle.padd.proofs.Scripts.{script-as}
 use Rattle.padd.specs.Play.{opening}
 use Rattle.padd.specs.declared.play.PlayBad.TheVariants.{Failed}
 use Rattle.padd.proofs.Running.{holds_nothing, nothing_played}
@@ -10,5 +12,25 @@ returns-in_err-disk-clause-ends g c = nothing_played _ _ c.args.id (g.S.Source.l
 pub returns-in_err-stage-clause-ends : goal.returns-in_err-stage-clause-ends
 returns-in_err-stage-clause-ends g c = nothing_played _ _ c.args.id (g.S.Source.left c.args.source.now) (g.K.Sink.held c.args.sink.now) c.from_residual-in_err-stage.result Failed (search rules)
 
+pub returns-in_err-all-clause-ends : goal.returns-in_err-all-clause-ends
+returns-in_err-all-clause-ends g c =
+    let bad = c.in_err-all.field-0.0 in
+    let e : c.from_residual-in_err-all.result ≡ Err bad = search (rules, c.from_residual-in_err-all.ensures, c.in_err-all.is, c.in_err-all.was) in
+    let f : c.play_lines.result ≡ Err bad = search (rules, c.in_err-all.is, c.in_err-all.was) in
+    let w = c.play_lines.new.stage.world in
+    script-as _ _ (opening c.args.id) (g.S.Source.left c.args.source.now) (g.K.Sink.held c.args.sink.now) (g.K.Sink.held c.play_lines.new.sink) _ _ (e ∙ sym (ap (with_world w) f))
+    (c.play_lines.ensures.ends (opening c.args.id) (c.in_ok-stage.ensures (holds_nothing _ c.new.result.items c.in_ok-disk.ensures.told c.new.ensures.items)))
+
+pub returns-then-not-all-clause-ends : goal.returns-then-not-all-clause-ends
+returns-then-not-all-clause-ends g c =
+    let f : c.play_lines.result ≡ Ok false = search rules in
+    let w = c.play_lines.new.stage.world in
+    script-as _ _ (opening c.args.id) (g.S.Source.left c.args.source.now) (g.K.Sink.held c.args.sink.now) (g.K.Sink.held c.play_lines.new.sink) _ _ (sym (ap (with_world w) f))
+    (c.play_lines.ensures.ends (opening c.args.id) (c.in_ok-stage.ensures (holds_nothing _ c.new.result.items c.in_ok-disk.ensures.told c.new.ensures.items)))
+
 pub returns-clause-ends : goal.returns-clause-ends
-returns-clause-ends g c = c.play_lines.ensures.ends (opening c.args.id) (c.in_ok-stage.ensures (holds_nothing _ c.new.result.items c.in_ok-disk.ensures.told c.new.ensures.items))
+returns-clause-ends g c =
+    let f : c.play_lines.result ≡ Ok true = search rules in
+    let w = c.play_lines.new.stage.world in
+    script-as _ _ (opening c.args.id) (g.S.Source.left c.args.source.now) (g.K.Sink.held c.args.sink.now) (g.K.Sink.held c.play_lines.new.sink) _ _ (sym (ap (with_world w) f))
+    (c.play_lines.ensures.ends (opening c.args.id) (c.in_ok-stage.ensures (holds_nothing _ c.new.result.items c.in_ok-disk.ensures.told c.new.ensures.items)))
