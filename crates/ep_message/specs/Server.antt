@@ -63,22 +63,26 @@ collab_named kind d =
 
 -- by the `type` of its `data`, and where a client comes back by `noChanges`
 abbrev pub collab_row : Data → Result Row WireBad
-collab_row d = do
-  inside ← needed object_kind member.Data d
-  kind ← needed as_str member.Type inside
-  collab_named kind inside
+collab_row inside = needed as_str member.Type inside >>= λ kind. collab_named kind inside
 
 abbrev pub row_named : List ℕ → Data → Result Row WireBad
-row_named kind d =
-    if bytes_eq kind (codes "CLIENT_VARS") then (needed object_kind member.Data d >>= λ inside. Ok (vars inside))
-    else (if bytes_eq kind (codes "COLLABROOM") then collab_row d
-    else (if bytes_eq kind (codes "CHANGESET_REQ") then (needed object_kind member.Data d >>= λ inside. Ok (slid inside)) else Err (Shape member.Type)))
+row_named kind inside =
+    if bytes_eq kind (codes "CLIENT_VARS") then Ok (vars inside)
+    else (if bytes_eq kind (codes "COLLABROOM") then collab_row inside
+    else (if bytes_eq kind (codes "CHANGESET_REQ") then Ok (slid inside) else Err (Shape member.Type)))
+
+-- by its `type`, each with its members in its `data`
+abbrev pub typed_row : Data → Result Row WireBad
+typed_row d = do
+  kind ← needed as_str member.Type d
+  inside ← needed object_kind member.Data d
+  row_named kind inside
 
 -- a closing is told by its one member, any other message by its `type`
 abbrev pub row_by : Option Data → Option Data → Data → Result Row WireBad
 row_by (Some told) status d = ok_or (option_map closing (word_in disconnect_word told)) (Shape member.Disconnect)
 row_by None (Some told) d = ok_or (option_map closing (word_in status_word told)) (Shape member.AccessStatus)
-row_by None None d = needed as_str member.Type d >>= λ kind. row_named kind d
+row_by None None d = typed_row d
 
 abbrev pub row_of : Data → Result Row WireBad
 row_of d = row_by (get (name member.Disconnect) d) (get (name member.AccessStatus) d) d

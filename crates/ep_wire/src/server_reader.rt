@@ -3,7 +3,7 @@
 ghost use Rattle.std.specs.Prelude.{◌≡◌, codes, IfOk};
 ghost use Rattle.serde_json.specs.View.{view};
 ghost use Rattle.ep_message.specs.Answer.{Answers, Gives};
-ghost use Rattle.ep_message.specs.Server.{ReadsRow, ReadsServer, Row, accepted_in, back_members, collab_named, collab_row, disconnect_word, news_members, none_in, row_named, row_of, slid_members, status_word, vars_members};
+ghost use Rattle.ep_message.specs.Server.{ReadsRow, ReadsServer, Row, accepted_in, back_members, collab_named, collab_row, disconnect_word, news_members, none_in, row_named, row_of, slid_members, status_word, typed_row, vars_members};
 ghost use Rattle.ep_message.specs.Sent.{IsSentByServer, IsSession, IsSmall};
 ghost use Rattle.ep_wire.specs.ServerRows.{back_view, news_view, row_view, slid_view, vars_view};
 
@@ -72,22 +72,29 @@ fn collab_named<'a>(kind: &str, inside: &'a Value) -> Result<ServerRow<'a>, Wire
     }
 }
 
-fn collab_row(value: &Value) -> Result<ServerRow<'_>, WireBad>
-    ensures { Gives row_view result (collab_row (view value.now)) }
+fn collab_row(inside: &Value) -> Result<ServerRow<'_>, WireBad>
+    ensures { Gives row_view result (collab_row (view inside.now)) }
 {
-    let data = object(value, Member::Data)?;
-    collab_named(text(data, Member::Type)?, data)
+    collab_named(text(inside, Member::Type)?, inside)
 }
 
-fn row_named<'a>(kind: &str, value: &'a Value) -> Result<ServerRow<'a>, WireBad>
-    ensures { Gives row_view result (row_named kind.now (view value.now)) }
+fn row_named<'a>(kind: &str, inside: &'a Value) -> Result<ServerRow<'a>, WireBad>
+    ensures { Gives row_view result (row_named kind.now (view inside.now)) }
 {
     match kind {
-        "CLIENT_VARS" => Ok(ServerRow::Vars(object(value, Member::Data)?)),
-        "COLLABROOM" => collab_row(value),
-        "CHANGESET_REQ" => Ok(ServerRow::Slid(object(value, Member::Data)?)),
+        "CLIENT_VARS" => Ok(ServerRow::Vars(inside)),
+        "COLLABROOM" => collab_row(inside),
+        "CHANGESET_REQ" => Ok(ServerRow::Slid(inside)),
         _ => Err(WireBad::Shape(Member::Type)),
     }
+}
+
+fn typed_row(value: &Value) -> Result<ServerRow<'_>, WireBad>
+    ensures { Gives row_view result (typed_row (view value.now)) }
+{
+    let kind = text(value, Member::Type)?;
+    let inside = object(value, Member::Data)?;
+    row_named(kind, inside)
 }
 
 fn row(value: &Value) -> Result<ServerRow<'_>, WireBad>
@@ -101,7 +108,7 @@ fn row(value: &Value) -> Result<ServerRow<'_>, WireBad>
         let word = told.as_str().and_then(status_word);
         return Ok(ServerRow::Closing(word.ok_or(WireBad::Shape(Member::AccessStatus))?));
     }
-    row_named(text(value, Member::Type)?, value)
+    typed_row(value)
 }
 
 /// The members of a pad as it stands.
