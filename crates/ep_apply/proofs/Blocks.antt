@@ -41,6 +41,16 @@ pub some_blocks : (bs : List (Arc (List Cell) Global)) → 1 ≤ length (all_cel
 some_blocks [] h = h
 some_blocks (b ∷ bs) h = omega arith
 
+pub split_cells : (n : ℕ) (bs : List (Arc (List Cell) Global)) → all_cells (take n bs) ++ all_cells (drop n bs) ≡ all_cells bs
+split_cells n bs = sym (blocks-append (take n bs) (drop n bs)) ∙ ap all_cells (take-append-drop n bs)
+
+pub no_blocks : (bs : List (Arc (List Cell) Global)) → (length bs == 0) ≡ true → all_cells bs ≡ []
+no_blocks [] h = refl
+no_blocks (b ∷ bs) h = absurd (never (sym (ap (λ (n : ℕ). n == 0) (let e : length (b ∷ bs) ≡ suc (length bs) = omega arith in e)) ∙ h))
+  where
+    never : (suc (length bs) == 0) ≡ true → ⊥
+    never e = grind (arith, nat_tests)
+
 -- ---- what is seen of two texts
 
 pub lines-append : (us vs : Text) → count_lines (us ++ vs) ≡ count_lines us + count_lines vs

@@ -8,6 +8,7 @@ ghost use Rattle.ep_apply.specs.Blocks.{Sees, all_cells};
 ghost use Rattle.ep_apply.specs.PairEnds.{ends_high};
 
 use crate::block::Block;
+use crate::front::{Front, blocks_within, groups_within};
 use crate::group::Group;
 use crate::seen::Seen;
 use std::marker::Model;
@@ -109,6 +110,43 @@ impl<'a> Ahead<'a> {
                 self.groups = later;
                 Some(group)
             }
+        }
+    }
+
+    /// Takes the next groups, where none is begun: as many as have at most so many units.
+    pub fn take_groups(&mut self, most: u32) -> Front<'a, Group>
+        ensures taken { self.old ≡ all_cells result.items.now ++ self.new }
+        ensures units { result.units ≡ length (all_cells result.items.now) }
+        ensures most { result.units ≤ most }
+    {
+        if !self.blocks.is_empty() {
+            return Front {
+                items: &[],
+                units: 0,
+            };
+        }
+        let fit = groups_within(self.groups, most);
+        let (items, later) = self.groups.split_at(fit.count);
+        self.groups = later;
+        Front {
+            items,
+            units: fit.units,
+        }
+    }
+
+    /// Takes the next blocks of one group: as many as have at most so many units.
+    pub fn take_blocks(&mut self, most: u32) -> Front<'a, Block>
+        ensures taken { self.old ≡ all_cells result.items.now ++ self.new }
+        ensures units { result.units ≡ length (all_cells result.items.now) }
+        ensures most { result.units ≤ most }
+    {
+        self.begin();
+        let fit = blocks_within(self.blocks, most);
+        let (items, later) = self.blocks.split_at(fit.count);
+        self.blocks = later;
+        Front {
+            items,
+            units: fit.units,
         }
     }
 

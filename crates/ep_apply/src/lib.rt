@@ -6,6 +6,7 @@ mod applying;
 mod block;
 mod doc;
 mod fitting;
+mod front;
 mod group;
 mod laws;
 mod moving;

@@ -24,13 +24,15 @@ fn keep_piece(
     ensures done { IfOk result (λ n. out.new ≡ out.old ++ take n rest.old) }
     ensures rest { IfOk result (λ n. rest.new ≡ drop n rest.old) }
 {
-    if let Some(group) = rest.take_group(most) {
-        out.push_group(group)?;
-        return Ok(group.seen().units);
+    let groups = rest.take_groups(most);
+    if groups.units > 0 {
+        out.push_groups(groups.items)?;
+        return Ok(groups.units);
     }
-    if let Some(block) = rest.take_block(most) {
-        out.push_block(block)?;
-        return Ok(block.seen().units);
+    let blocks = rest.take_blocks(most);
+    if blocks.units > 0 {
+        out.push_blocks(blocks.items)?;
+        return Ok(blocks.units);
     }
     match rest.take(most) {
         None => Ok(most),

@@ -1,6 +1,6 @@
 //! Blocks that are written, one behind another.
 
-ghost use Rattle.std.specs.Prelude.{◌≡◌, ◌≤◌, ◌<◌, ◌^◌, ◌++◌, [], length, OnOk, IfOk};
+ghost use Rattle.std.specs.Prelude.{◌≡◌, ◌≤◌, ◌<◌, ◌^◌, ◌+◌, ◌++◌, [], length, OnOk, IfOk};
 ghost use Rattle.std.specs.Arc.{arc_value};
 ghost use Rattle.ep_apply.specs.Blocks.{all_cells};
 
@@ -73,6 +73,16 @@ fn close(
     make_group(alloc, groups, blocks)
 }
 
+/// Adds groups that a document shares to a list.
+fn share_each(list: &mut Vec<Arc<Group>>, groups: &[Arc<Group>]) -> Result<(), NoMemory>
+    ensures { OnOk result (all_cells list.new.items ≡ all_cells list.old.items ++ all_cells groups.now) }
+{
+    for group in groups {
+        list.push(Arc::try_clone(group)?)?;
+    }
+    Ok(())
+}
+
 impl Pile {
     /// Nothing, with room for so many groups.
     pub fn with_room(alloc: Global, groups: usize) -> Result<Pile, NoMemory>
@@ -90,11 +100,12 @@ impl Pile {
         requires { length self.old < 2 ^ 32 }
         ensures { OnOk result (self.new ≡ self.old) }
     {
-        if self.blocks.len() < MOST {
-            self.blocks.reserve(MOST - self.blocks.len())?;
-            return Ok(());
+        if self.blocks.len() >= MOST {
+            close(self.alloc, &mut self.groups, &mut self.blocks)?;
         }
-        close(self.alloc, &mut self.groups, &mut self.blocks)?;
+        if self.blocks.is_empty() {
+            self.blocks.reserve(MOST)?;
+        }
         Ok(())
     }
 
@@ -113,14 +124,24 @@ impl Pile {
         Ok(())
     }
 
-    /// Adds a group that a document shares.
-    pub fn share(&mut self, group: &Arc<Group>) -> Result<(), NoMemory>
+    /// Adds blocks that a document shares.
+    pub fn add_all(&mut self, blocks: &[Arc<Block>]) -> Result<(), NoMemory>
+        requires { length self.old + length (all_cells blocks.now) < 2 ^ 32 }
+        ensures { OnOk result (self.new ≡ self.old ++ all_cells blocks.now) }
+    {
+        for block in blocks {
+            self.add(Arc::try_clone(block)?)?;
+        }
+        Ok(())
+    }
+
+    /// Adds groups that a document shares.
+    pub fn share_all(&mut self, groups: &[Arc<Group>]) -> Result<(), NoMemory>
         requires { length self.old < 2 ^ 32 }
-        ensures { OnOk result (self.new ≡ self.old ++ arc_value group.now) }
+        ensures { OnOk result (self.new ≡ self.old ++ all_cells groups.now) }
     {
         close(self.alloc, &mut self.groups, &mut self.blocks)?;
-        self.groups.push(Arc::try_clone(group)?)?;
-        Ok(())
+        share_each(&mut self.groups, groups)
     }
 
     /// All in groups.

@@ -3,9 +3,11 @@
 ghost use Rattle.std.specs.Prelude.{◌≡◌, ◌≤◌, ◌++◌, [], length, drop, MatchOption};
 ghost use Rattle.std.specs.Arc.{arc_value};
 ghost use Rattle.ep_cs.specs.Runs.{cells};
+ghost use Rattle.ep_apply.specs.Blocks.{all_cells};
 
 use crate::ahead::Ahead;
 use crate::block::Block;
+use crate::front::Front;
 use crate::group::Group;
 use ep_parts::{Stretch, Within};
 use std::marker::Model;
@@ -67,6 +69,36 @@ impl<'a> Reading<'a> {
             return None;
         }
         self.ahead.take_block(most)
+    }
+
+    /// Takes the next groups, where no block and no group is begun: as many as have at most so many units.
+    pub(crate) fn take_groups(&mut self, most: u32) -> Front<'a, Group>
+        ensures taken { self.old ≡ all_cells result.items.now ++ self.new }
+        ensures units { result.units ≡ length (all_cells result.items.now) }
+        ensures most { result.units ≤ most }
+    {
+        if !self.here.is_over() {
+            return Front {
+                items: &[],
+                units: 0,
+            };
+        }
+        self.ahead.take_groups(most)
+    }
+
+    /// Takes the next blocks of one group, where no block is begun: as many as have at most so many units.
+    pub(crate) fn take_blocks(&mut self, most: u32) -> Front<'a, Block>
+        ensures taken { self.old ≡ all_cells result.items.now ++ self.new }
+        ensures units { result.units ≡ length (all_cells result.items.now) }
+        ensures most { result.units ≤ most }
+    {
+        if !self.here.is_over() {
+            return Front {
+                items: &[],
+                units: 0,
+            };
+        }
+        self.ahead.take_blocks(most)
     }
 
     /// Takes what is next, of at most so many units, and answers how many these are.

@@ -141,6 +141,15 @@ impl Writer {
         self.pile.add(Arc::try_clone(block)?)
     }
 
+    /// Adds blocks that the document shares.
+    fn share_blocks(&mut self, blocks: &[Arc<Block>]) -> Result<(), NoMemory>
+        requires { length self.old + length (all_cells blocks.now) < 2 ^ 32 }
+        ensures { OnOk result (self.new ≡ self.old ++ all_cells blocks.now) }
+    {
+        close(self.alloc, &mut self.pile, &mut self.open)?;
+        self.pile.add_all(blocks)
+    }
+
     /// Adds a block: to the open one, if both are not too many units for one; else it is shared.
     pub fn push_block(&mut self, block: &Arc<Block>) -> Result<(), NoMemory>
         requires { length self.old + length (arc_value block.now) < 2 ^ 32 }
@@ -154,36 +163,46 @@ impl Writer {
         }
     }
 
-    /// Adds the blocks of a group.
-    fn copy_group(&mut self, group: &Group) -> Result<(), NoMemory>
-        requires { length self.old + length group.now < 2 ^ 32 }
-        ensures { OnOk result (self.new ≡ self.old ++ group.now) }
+    /// Adds blocks: the first ones to the open block, as long as both are not too many units for one; the others are shared.
+    pub fn push_blocks(&mut self, blocks: &[Arc<Block>]) -> Result<(), NoMemory>
+        requires { length self.old + length (all_cells blocks.now) < 2 ^ 32 }
+        ensures { OnOk result (self.new ≡ self.old ++ all_cells blocks.now) }
     {
-        for block in group.blocks() {
+        let mut rest = blocks;
+        'pieces: while let [block, later @ ..] = rest {
+            if self.open.len() == 0 {
+                return self.share_blocks(rest);
+            }
             self.push_block(block)?;
+            rest = later;
         }
         Ok(())
     }
 
-    /// Adds a group that the document shares.
-    fn share_group(&mut self, group: &Arc<Group>) -> Result<(), NoMemory>
+    /// Adds groups that the document shares.
+    fn share_groups(&mut self, groups: &[Arc<Group>]) -> Result<(), NoMemory>
         requires { length self.old < 2 ^ 32 }
-        ensures { OnOk result (self.new ≡ self.old ++ arc_value group.now) }
+        ensures { OnOk result (self.new ≡ self.old ++ all_cells groups.now) }
     {
         close(self.alloc, &mut self.pile, &mut self.open)?;
-        self.pile.share(group)
+        self.pile.share_all(groups)
     }
 
-    /// Adds a group: its blocks to those before it, if they are not too many for one; else it is shared.
-    pub fn push_group(&mut self, group: &Arc<Group>) -> Result<(), NoMemory>
-        requires { length self.old + length (arc_value group.now) < 2 ^ 32 }
-        ensures { OnOk result (self.new ≡ self.old ++ arc_value group.now) }
+    /// Adds groups: of the first ones the blocks, as long as these are not too many for one group with those before; the
+    /// others are shared.
+    pub fn push_groups(&mut self, groups: &[Arc<Group>]) -> Result<(), NoMemory>
+        requires { length self.old + length (all_cells groups.now) < 2 ^ 32 }
+        ensures { OnOk result (self.new ≡ self.old ++ all_cells groups.now) }
     {
-        if self.pile.has_room(group.blocks().len()) {
-            self.copy_group(group)
-        } else {
-            self.share_group(group)
+        let mut rest = groups;
+        'pieces: while let [group, later @ ..] = rest {
+            if !self.pile.has_room(group.blocks().len()) {
+                return self.share_groups(rest);
+            }
+            self.push_blocks(group.blocks())?;
+            rest = later;
         }
+        Ok(())
     }
 
     /// What is written, in groups.
