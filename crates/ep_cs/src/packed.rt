@@ -1,6 +1,6 @@
 //! Changes in packed runs.
 
-ghost use Rattle.std.specs.Prelude.{◌≡◌, [], length, IfOk};
+ghost use Rattle.std.specs.Prelude.{◌≡◌, [], length, IfOk, IfSome};
 ghost use Rattle.ep_cs.specs.Edit.{identity};
 ghost use Rattle.ep_cs.specs.Change.{bank_of};
 ghost use Rattle.ep_cs.specs.Fits.{is_identity};
@@ -8,6 +8,7 @@ ghost use Rattle.ep_cs.specs.NormalRuns.{IsNormal};
 ghost use Rattle.ep_cs.specs.Spelling.{old_len, new_len};
 
 use crate::op::Op;
+use ep_attr::AttrMap;
 use ep_units::{NoMemory, Units};
 use std::alloc::Global;
 use std::marker::Model;
@@ -34,6 +35,33 @@ impl Model for Change {
     ghost view = { packed_change };
 
     ghost invariant = { IsPacked };
+}
+
+/// A map of these operations that is equal to this one, where there is one that can be copied.
+#[tactic(auto, using(ep_attr::proofs::SameMap::exact_map))]
+fn equal_map(alloc: Global, map: &AttrMap, ops: &[Op]) -> Option<AttrMap>
+    ensures { IfSome result (λ m. m ≡ map.now) }
+{
+    if map.is_none() {
+        return None;
+    }
+    for op in ops {
+        if op.attrs == *map {
+            return op.attrs.copy(alloc).ok();
+        }
+    }
+    None
+}
+
+/// Puts maps of these operations in the place of equal ones.
+fn share(alloc: Global, ops: &mut [Op], others: &[Op])
+    ensures { ops.new ≡ ops.old }
+{
+    for i in 0..ops.len() {
+        if let Some(map) = equal_map(alloc, &ops[i].attrs, others) {
+            ops[i].attrs = map;
+        }
+    }
 }
 
 impl Change {
@@ -87,6 +115,13 @@ impl Change {
         ensures { result.now ≡ bank_of self.now.edit }
     {
         &self.bank
+    }
+
+    /// The same change, with the maps of another in the place of equal ones, so that both keep one. It takes no memory.
+    pub fn share_maps(&mut self, alloc: Global, other: &Change)
+        ensures { self.new ≡ self.old }
+    {
+        share(alloc, &mut self.ops, &other.ops);
     }
 
     /// The same change again.

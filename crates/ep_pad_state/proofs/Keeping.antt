@@ -1,5 +1,5 @@
 -- What a pad in memory keeps after each change.
-use Rattle.std.proofs.Common.{◌≡◌, ℕ, suc, ◌+◌, ◌≤◌, true, false, List, [], ◌∷◌, ◌++◌, length, refl, sym, ap, ◌∙◌, subst, arith}
+use Rattle.std.proofs.Common.{◌≡◌, ℕ, ◌+◌, ◌≤◌, true, false, List, [], ◌∷◌, ◌++◌, length, refl, sym, ap, ◌∙◌, subst, arith}
 use Rattle.ep_history.specs.declared.rev.Rev.{Rev}
 use Rattle.ep_history.specs.declared.nop.Nop.{Nop}
 use Rattle.ep_history.specs.declared.seat.Seat.{Seat}
@@ -12,7 +12,7 @@ use Rattle.ep_pad_state.specs.declared.birth.Birth.{Birth as Kept}
 use Rattle.ep_pad_state.specs.declared.pad.Last.{Last}
 use Rattle.ep_pad_state.specs.declared.pad.Last.TheVariants.{There, Gone}
 use Rattle.ep_pad_state.specs.declared.pad.Pad.{Pad}
-use Rattle.ep_pad_state.specs.Held.{IsBirth, IsLast, IsPad, Keeps}
+use Rattle.ep_pad_state.specs.Held.{IsBirth, IsLast, Keeps}
 use Rattle.ep_pad_state.specs.Making.{birth_of, with_birth}
 use Rattle.ep_pad_state.proofs.Pads.{newest-revs, newest-nops, newest-born, count-born, last-of}
 

@@ -1,14 +1,11 @@
 -- What is read of the last birth, and what is pushed to it.
-use Rattle.std.proofs.Common.{◌≡◌, ℕ, zero, suc, ◌+◌, ◌<◌, ◌≤◌, Bool, true, false, cond, if◌then◌else◌, List, [], ◌∷◌, ◌++◌, map, length, take, drop, Option, Some, None, min, refl, sym, ap, ◌∙◌, subst, arith}
+use Rattle.std.proofs.Common.{◌≡◌, ℕ, zero, suc, ◌≤◌, Bool, true, false, cond, if◌then◌else◌, List, [], ◌∷◌, ◌++◌, map, length, take, drop, Some, min, refl, sym, ap, ◌∙◌, subst, arith}
 use Rattle.std.specs.List.{filter}
-use Rattle.std.proofs.lemmas.List.{append_assoc, take_all}
 use Rattle.ep_units.specs.declared.session.Session.{Session}
-use Rattle.ep_cs.specs.Doc.{Doc}
 use Rattle.ep_cs.specs.Edit.{apply}
-use Rattle.ep_cs.specs.Fits.{Fits}
 use Rattle.ep_history.specs.declared.rev.Rev.{Rev}
 use Rattle.ep_history.specs.declared.nop.Nop.{Nop}
-use Rattle.ep_history.specs.History.{Birth, is_session, nops_of, head, head_doc, doc_at, made, newline}
+use Rattle.ep_history.specs.History.{Birth, is_session, nops_of, head, doc_at, newline}
 use Rattle.ep_history.specs.Lists.{at}
 use Rattle.ep_history.specs.Readings.{edited, last_rev, revs_behind, nop_heads}
 use Rattle.ep_history.proofs.Lists.{some_same}
@@ -16,9 +13,7 @@ use Rattle.ep_revs.specs.Revisions.{doc_of, last_doc, head_of}
 use Rattle.ep_step.specs.declared.revised.NewRev.{NewRev}
 use Rattle.ep_step.specs.declared.revised.Revised.{Revised}
 use Rattle.ep_step.specs.Revised.{AreNewRevs, IsNewRev}
-use Rattle.ep_pad_state.specs.declared.birth.Birth.{Birth as Kept}
-use Rattle.ep_pad_state.specs.Held.{IsBirth}
-use Rattle.ep_pad_state.proofs.Pads.{at-last, made-append, leads-on}
+use Rattle.ep_pad_state.proofs.Pads.{at-last, made-append}
 
 pub number-of : (vs : List Rev) (b : Birth) (n : ℕ) → Some n ≡ head_of vs → vs ≡ b.first ∷ b.later → n ≡ head b
 number-of vs b n e r = some_same (e ∙ ap head_of r)

@@ -1,5 +1,5 @@
 -- What an entry comes to, by what code asks.
-use Rattle.std.proofs.Common.{◌≡◌, ℕ, zero, suc, ◌+◌, ◌<◌, ◌≤◌, Bool, true, false, not, List, [], ◌∷◌, length, Option, Some, None, refl, sym, ap, ◌∙◌, subst, T, arith}
+use Rattle.std.proofs.Common.{◌≡◌, ℕ, suc, ◌<◌, ◌≤◌, Bool, true, false, not, [], ◌∷◌, length, Option, Some, None, refl, sym, ap, ◌∙◌, subst, T, arith}
 use Rattle.std.specs.Prelude.{nat_lt}
 use Rattle.std.proofs.lemmas.Bool.Decides.{nat_tests}
 use Rattle.ep_units.specs.Text.{Text}
@@ -12,25 +12,24 @@ use Rattle.ep_history.specs.Lists.{or_else}
 use Rattle.ep_history.specs.Refusals.{first_fault, fault_if, login_fault, resume_fault}
 use Rattle.ep_history.specs.Accept.{refusal, edit_faults}
 use Rattle.ep_history.specs.Server.{gone_fault, create_fault, set_fault}
-use Rattle.ep_history.specs.Readings.{dead_fault, dead_if, end_of, text, text_fault, history, history_fault, fetch, fetch_fault, status}
-use Rattle.ep_history.specs.Records.{IsSoundPad}
-use Rattle.ep_history.specs.Entries.{Entry, Answer, Outcome, outcome, unless}
+use Rattle.ep_history.specs.Readings.{dead_fault, dead_if, end_of, text, history, fetch, status}
+use Rattle.ep_history.specs.Entries.{Outcome, outcome, unless}
 use Rattle.ep_history.specs.Entries.Entry.{Fetch, ReadText, ReadHistory, ReadStatus}
 use Rattle.ep_history.specs.Entries.Answer.{FetchAnswer, TextAnswer, HistoryAnswer, StatusAnswer}
 use Rattle.ep_history.specs.Entries.Outcome.{Refuses, Answers}
 use Rattle.ep_history.specs.declared.seat.Seat.{Seat}
 use Rattle.ep_history.specs.declared.pad_bad.PadBad.{PadBad}
 use Rattle.ep_history.specs.declared.pad_bad.PadBad.TheVariants.{Gone, NoRev, BadRev, Exists}
-use Rattle.ep_history.proofs.Refused.{if-not, less-not, none-of, not-if}
+use Rattle.ep_history.proofs.Refused.{less-not, none-of, not-if}
 use Rattle.ep_attr.proofs.SameMap.{first_true}
 use Rattle.std.specs.Prelude.{if◌then◌else◌, ◌&&◌}
-use Rattle.ep_history.specs.History.{By, by_nobody}
+use Rattle.ep_history.specs.History.{By}
 use Rattle.ep_history.specs.Pad.{with_session, create, delete, set_public, leave}
-use Rattle.ep_history.specs.Accept.{seat_fault, live_fault, seat_author, at_head, committed, made_at_head}
-use Rattle.ep_history.specs.Server.{set_head, set_text, set_faults, create_faults}
+use Rattle.ep_history.specs.Accept.{seat_fault, live_fault, seat_author, at_head, made_at_head}
+use Rattle.ep_history.specs.Server.{set_head, set_text}
 use Rattle.ep_history.specs.Refusals.{resume_faults, is_birth}
 use Rattle.ep_history.specs.Readings.{Committed, commit, revised, welcome, catch_up}
-use Rattle.ep_history.specs.Records.{accept_record, edit_record, create_record, set_record}
+use Rattle.ep_history.specs.Records.{edit_record, create_record, set_record}
 use Rattle.ep_history.specs.Entries.Entry.{Login, Resume, Accept, Leave, Create, SetText, Delete, SetPublic}
 use Rattle.ep_history.specs.Entries.Answer.{LoginAnswer, ResumeAnswer, CommitAnswer, BirthAnswer, Done}
 use Rattle.ep_history.specs.Entries.Outcome.{Records}

@@ -1,6 +1,6 @@
 -- Pads and births after each change.
-use Rattle.std.proofs.Common.{◌≡◌, ℕ, zero, suc, ◌+◌, ◌≤◌, Bool, true, false, List, [], ◌∷◌, ◌++◌, map, length, take, drop, Option, Some, None, refl, sym, ap, ◌∙◌, subst, T, arith}
-use Rattle.std.proofs.lemmas.List.{append_assoc, length-append, take_all}
+use Rattle.std.proofs.Common.{◌≡◌, ℕ, zero, suc, ◌≤◌, Bool, true, List, [], ◌∷◌, ◌++◌, length, take, drop, Option, Some, None, refl, sym, ap, ◌∙◌, subst, T, arith}
+use Rattle.std.proofs.lemmas.List.{length-append, take_all}
 use Rattle.ep_units.specs.Text.{Text}
 use Rattle.ep_units.specs.declared.session.Session.{Session}
 use Rattle.ep_cs.specs.Doc.{Doc}
@@ -8,16 +8,16 @@ use Rattle.ep_cs.specs.Edit.{apply}
 use Rattle.ep_history.specs.declared.rev.Rev.{Rev}
 use Rattle.ep_history.specs.declared.nop.Nop.{Nop}
 use Rattle.ep_history.specs.declared.seat.Seat.{Seat}
-use Rattle.ep_history.specs.History.{Birth, first_doc, doc_at, head, head_doc, made, newline}
+use Rattle.ep_history.specs.History.{Birth, first_doc, head, head_doc, made, newline}
 use Rattle.ep_history.specs.Lists.{at, numbered, or_else}
-use Rattle.ep_history.specs.Pad.{PadState, no_birth, birth_at, newest, seat_of, live_count, with_revs, with_nops, with_session, leave}
+use Rattle.ep_history.specs.Pad.{PadState, no_birth, birth_at, newest, seat_of, with_revs, with_nops, with_session, leave}
 use Rattle.ep_history.specs.Readings.{last_rev}
 use Rattle.ep_history.specs.Records.{IsSoundPad}
 use Rattle.ep_history.specs.declared.record.Record.TheVariants as record_of
 use Rattle.ep_cs.specs.Change.{Change}
 use Rattle.ep_cs.specs.Fits.{Fits}
 use Rattle.ep_cs.specs.EditFits.{is_edit}
-use Rattle.ep_history.specs.History.{By, nop_by, step_revs, first_rev, lacks_newline}
+use Rattle.ep_history.specs.History.{By, step_revs, first_rev, lacks_newline}
 use Rattle.ep_history.specs.Pad.{delete, set_public, create, next_session}
 use Rattle.ep_history.specs.Readings.{Welcome, welcome, dead_fault, dead_if, end_of, edited}
 use Rattle.ep_history.specs.declared.seat.Why.{Why}

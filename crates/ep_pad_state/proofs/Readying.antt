@@ -1,5 +1,5 @@
 -- Changes that are made ready.
-use Rattle.std.proofs.Common.{◌≡◌, ℕ, suc, ◌+◌, ◌<◌, ◌≤◌, ◌^◌, true, false, Bool, List, [], ◌∷◌, ◌++◌, length, Option, Some, None, refl, sym, ap, ◌∙◌, subst, arith, vec_len, vec_capacity}
+use Rattle.std.proofs.Common.{◌≡◌, ℕ, suc, ◌+◌, ◌<◌, ◌≤◌, ◌^◌, true, false, Bool, List, [], ◌∷◌, length, Option, Some, None, refl, sym, ap, ◌∙◌, subst, arith, vec_len, vec_capacity}
 use Rattle.ep_units.specs.Text.{Text, is_well_formed}
 use Rattle.ep_cs.specs.Doc.{Doc}
 use Rattle.ep_cs.specs.Edit.{Edit}
@@ -9,7 +9,7 @@ use Rattle.ep_cs.specs.EditFits.{is_edit}
 use Rattle.ep_history.specs.declared.rev.Rev.{Rev}
 use Rattle.ep_history.specs.declared.nop.Nop.{Nop}
 use Rattle.ep_history.specs.declared.record.Record.TheVariants as record_of
-use Rattle.ep_history.specs.History.{By, head, head_doc, made, lacks_newline, newline, first_rev, step_revs}
+use Rattle.ep_history.specs.History.{By, made, lacks_newline, first_rev, step_revs}
 use Rattle.ep_history.specs.Pad.{PadState, newest, with_revs, with_nops, reopened}
 use Rattle.ep_history.specs.Records.{IsSoundPad}
 use Rattle.ep_history.proofs.Births.{made-step}
@@ -20,13 +20,13 @@ use Rattle.ep_seats.specs.Kept.{KeptSeats, StandsFor, HasNext}
 use Rattle.ep_step.specs.declared.revised.NewRev.{NewRev}
 use Rattle.ep_step.specs.declared.revised.Revised.{Revised}
 use Rattle.ep_step.specs.declared.step.Step.{Step}
-use Rattle.ep_step.specs.Revised.{revs_of, newline_revs, AreNewRevs}
+use Rattle.ep_step.specs.Revised.{revs_of, newline_revs}
 use Rattle.ep_step.specs.Step.{step_of}
 use Rattle.ep_pad_state.specs.declared.birth.Birth.{Birth as Kept}
 use Rattle.ep_pad_state.specs.declared.change.PadChange.TheVariants as made_by
-use Rattle.ep_pad_state.specs.declared.pad.Last.TheVariants.{There, Gone}
+use Rattle.ep_pad_state.specs.declared.pad.Last.TheVariants.{There}
 use Rattle.ep_pad_state.specs.declared.pad.Pad.{Pad}
-use Rattle.ep_pad_state.specs.Held.{IsBirth, IsPad}
+use Rattle.ep_pad_state.specs.Held.{IsPad}
 use Rattle.ep_pad_state.specs.Making.{with_birth, CanGrow, TakesRevs, TakesNop, IsReady}
 use Rattle.ep_pad_state.proofs.Pads.{revs-sound, nops-sound, deleted-sound, public-sound, entered-sound}
 use Rattle.ep_pad_state.proofs.Keeping.{present-of, birth-of, head-doc-of, head-of}

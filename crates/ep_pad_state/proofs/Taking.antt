@@ -1,5 +1,5 @@
 -- An edit that a birth takes.
-use Rattle.std.proofs.Common.{◌≡◌, ◌⊎◌, inl, inr, ℕ, zero, suc, ◌+◌, ◌<◌, ◌≤◌, Bool, true, false, if◌then◌else◌, List, [], ◌∷◌, length, take, drop, Option, Some, None, Result, Ok, Err, refl, sym, ap, ◌∙◌, subst, T, arith}
+use Rattle.std.proofs.Common.{◌≡◌, ◌⊎◌, inl, inr, ℕ, suc, ◌+◌, ◌<◌, ◌≤◌, Bool, true, false, if◌then◌else◌, List, [], ◌∷◌, length, drop, Option, Some, None, Result, Ok, Err, refl, sym, ap, ◌∙◌, subst, arith}
 use Rattle.std.proofs.lemmas.List.{take_all}
 use Rattle.ep_units.specs.Text.{Text}
 use Rattle.ep_units.specs.declared.session.Session.{Session}
@@ -9,17 +9,16 @@ use Rattle.ep_cs.specs.Change.{Change, stamped}
 use Rattle.ep_cs.specs.Fits.{is_identity}
 use Rattle.ep_cs.specs.Made.{AreMade}
 use Rattle.ep_history.specs.declared.rev.Rev.{Rev}
-use Rattle.ep_history.specs.declared.nop.Nop.{Nop}
 use Rattle.ep_history.specs.declared.seat.Seat.{Seat}
 use Rattle.ep_history.specs.declared.pad_bad.PadBad.{PadBad}
 use Rattle.ep_history.specs.declared.pad_bad.PadBad.TheVariants.{NoMemory}
 use Rattle.ep_history.specs.declared.record.Record.{Record}
 use Rattle.ep_history.specs.declared.record.Record.TheVariants as record_of
-use Rattle.ep_history.specs.History.{By, Birth, nop_by, head, head_doc, doc_at, made, newline, step_revs}
+use Rattle.ep_history.specs.History.{By, Birth, nop_by, head, head_doc, made, newline, step_revs}
 use Rattle.ep_history.specs.Pad.{PadState, newest, seat_of, with_revs, with_nops}
-use Rattle.ep_history.specs.Accept.{at_head, made_at_head, refusal}
+use Rattle.ep_history.specs.Accept.{at_head, refusal}
 use Rattle.ep_history.specs.Readings.{Committed, commit}
-use Rattle.ep_history.specs.Records.{rev_record, edit_record}
+use Rattle.ep_history.specs.Records.{rev_record}
 use Rattle.ep_history.specs.Entries.{outcome}
 use Rattle.ep_history.specs.Entries.Entry.{Accept}
 use Rattle.ep_history.specs.Entries.Answer.{CommitAnswer}

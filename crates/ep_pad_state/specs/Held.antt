@@ -1,8 +1,7 @@
 -- For which pads a pad in memory stands.
-use Rattle.std.specs.Prelude.{◌≡◌, true, false, List, [], ◌∷◌, length}
-use Rattle.ep_history.specs.declared.rev.Rev.{Rev}
+use Rattle.std.specs.Prelude.{◌≡◌, true, false, ◌∷◌, length}
 use Rattle.ep_history.specs.History.{Birth, head}
-use Rattle.ep_history.specs.Pad.{PadState, newest, no_birth}
+use Rattle.ep_history.specs.Pad.{PadState, newest}
 use Rattle.ep_history.specs.Records.{IsSoundPad}
 use Rattle.ep_seats.specs.Kept.{StandsFor}
 use Rattle.ep_pad_state.specs.declared.birth.Birth.{Birth as Kept}

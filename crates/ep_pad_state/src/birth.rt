@@ -7,6 +7,7 @@ ghost use Rattle.ep_history.specs.History.{is_session, lacks_newline};
 ghost use Rattle.ep_revs.specs.Revisions.{last_doc};
 ghost use Rattle.ep_step.specs.Revised.{revs_of, AreNewRevs};
 
+use crate::guesses::Guesses;
 use ep_apply::Doc;
 use ep_cs::Change;
 use ep_history::{Nop, PadBad, Rev};
@@ -22,6 +23,7 @@ use std::alloc::{AllocError, Global};
 pub struct Birth {
     pub(crate) revs: Revs,
     pub(crate) nops: Vec<Nop>,
+    guesses: Guesses,
     ghost some: { 1 ≤ length revs.revs },
     ghost ends: { lacks_newline (last_doc revs.revs) ≡ false },
 }
@@ -101,6 +103,7 @@ impl Birth {
         Ok(Birth {
             revs,
             nops: Vec::new(alloc),
+            guesses: Guesses::none(),
         })
     }
 
@@ -178,6 +181,16 @@ impl Birth {
         Ok(later_heads(alloc, &self.nops, session, told as usize, to)?)
     }
 
+    /// Puts maps of the session's last revision in the place of equal ones, so that both keep one.
+    pub(crate) fn share_maps(&self, alloc: Global, session: Session, change: &mut Change)
+        ensures { change.new ≡ change.old }
+    {
+        let rev = self.guesses.rev(session);
+        if rev <= self.last() {
+            change.share_maps(alloc, &self.revs.rev(rev).change);
+        }
+    }
+
     /// An edit that an author bases on a revision, brought to the head. An edit of the head takes no document.
     pub(crate) fn take(
         &self,
@@ -252,6 +265,8 @@ impl Birth {
         ensures revs { self.new.revs.revs ≡ self.old.revs.revs ++ revs_of revised }
         ensures nops { self.new.nops.items ≡ self.old.nops.items }
     {
+        let next = self.last().saturating_add(1);
+        self.guesses.put(revised.edit.rev.session, next);
         push_all(&mut self.revs, revised);
     }
 

@@ -9,6 +9,7 @@ mod answers;
 mod birth;
 mod change;
 mod entering;
+mod guesses;
 mod pad;
 mod readings;
 mod recording;

@@ -3,9 +3,11 @@
 ghost use Rattle.std.specs.Prelude.{◌≡◌};
 
 use crate::birth::Birth;
+use ep_cs::Change;
 use ep_history::PadBad;
 use ep_outside::Limits;
 use ep_seats::{PadFacts, Seats};
+use ep_units::Session;
 use std::alloc::Global;
 
 /// The last birth.
@@ -47,6 +49,15 @@ impl Last {
         ensures { (p : PadState) → IsLast self.now p → result ≡ p.present }
     {
         matches!(self, Last::There(_))
+    }
+
+    /// Puts maps of the session's last revision in the place of equal ones, so that both keep one.
+    pub(crate) fn share_maps(&self, alloc: Global, session: Session, change: &mut Change)
+        ensures { change.new ≡ change.old }
+    {
+        if let Last::There(birth) = self {
+            birth.share_maps(alloc, session, change);
+        }
     }
 }
 

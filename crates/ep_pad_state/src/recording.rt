@@ -60,6 +60,23 @@ impl Pad {
         ensures answer { Readies self.old (Accept session base change now) (λ c. CommitAnswer (told_by c)) result self.new }
         ensures ready { IfOk result (λ x. IsReady self.new x.change) }
     {
+        let mut change = change;
+        self.last.share_maps(alloc, session, &mut change);
+        self.take(alloc, session, base, change, now)
+    }
+
+    /// The same, of a change whose maps are as they are to be kept.
+    fn take(
+        &mut self,
+        alloc: Global,
+        session: Session,
+        base: u64,
+        change: Change,
+        now: u64,
+    ) -> Result<Ready<Committed>, PadBad>
+        ensures answer { Readies self.old (Accept session base change now) (λ c. CommitAnswer (told_by c)) result self.new }
+        ensures ready { IfOk result (λ x. IsReady self.new x.change) }
+    {
         let author = self.seats.writer(session)?;
         let birth = match &mut self.last {
             Last::There(birth) => birth,

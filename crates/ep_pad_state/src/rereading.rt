@@ -46,7 +46,11 @@ impl Pad {
                 author,
                 fixed,
                 change,
-            } => self.revisions(alloc, session, time, author, fixed, change),
+            } => {
+                let mut change = change;
+                self.last.share_maps(alloc, session, &mut change);
+                self.revisions(alloc, session, time, author, fixed, change)
+            }
             Record::Delete { time: _time } => Ok(self.where_there(PadChange::Deletion)),
             Record::Public { on } => Ok(self.where_there(PadChange::Public(on))),
             Record::Nop { session, time } => self.nop(session, time),

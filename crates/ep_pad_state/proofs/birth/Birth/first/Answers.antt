@@ -1,4 +1,4 @@
-use Rattle.std.proofs.Common.{◌≤◌, ◌≡◌, sym, ap, ◌∙◌, subst, length, arith, ◌∷◌, []}
+use Rattle.std.proofs.Common.{◌≤◌, sym, ap, ◌∙◌, subst, length, arith}
 use Rattle.ep_history.specs.History.{lacks_newline, first_rev, by_nobody, newline}
 use Rattle.ep_revs.specs.Revisions.{last_doc}
 use Rattle.ep_step.specs.Revised.{revs_of}

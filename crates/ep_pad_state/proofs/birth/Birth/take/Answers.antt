@@ -1,4 +1,4 @@
-use Rattle.std.proofs.Common.{refl, sym, ap, ◌∙◌, subst, arith}
+use Rattle.std.proofs.Common.{◌∙◌, subst, arith}
 use Rattle.ep_history.proofs.Lists.{some_same}
 use Rattle.ep_step.specs.Taking.{Leads}
 use Rattle.ep_pad_state.proofs.Taking.{asked-none, asked-some, last-is, leads}

@@ -1,4 +1,4 @@
-use Rattle.std.proofs.Common.{◌≡◌, ◌<◌, ◌+◌, ◌^◌, suc, true, false, length, refl, sym, ap, ◌∙◌, arith}
+use Rattle.std.proofs.Common.{◌≡◌, ◌<◌, ◌+◌, ◌^◌, suc, true, length, sym, ap, ◌∙◌, arith}
 use Rattle.ep_units.specs.Text.{is_well_formed}
 use Rattle.ep_pad_state.specs.Making.{with_birth}
 use Rattle.ep_pad_state.proofs.Readying.{ready-birth}

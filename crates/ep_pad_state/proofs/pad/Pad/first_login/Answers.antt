@@ -1,4 +1,4 @@
-use Rattle.std.proofs.Common.{◌≡◌, suc, length, rules, refl, sym, ap, ◌∙◌, arith, ◌∷◌, []}
+use Rattle.std.proofs.Common.{◌≡◌, suc, length, rules, refl, ap, ◌∙◌, arith, ◌∷◌, []}
 use Rattle.ep_history.specs.History.{first_rev}
 use Rattle.ep_history.specs.Pad.{with_session}
 use Rattle.ep_history.specs.declared.record.Record.TheVariants as record_of

@@ -1,7 +1,6 @@
-use Rattle.std.proofs.Common.{inl, refl, sym, subst}
+use Rattle.std.proofs.Common.{sym}
 use Rattle.ep_history.specs.Pad.{leave}
-use Rattle.ep_pad_state.specs.Held.{Keeps}
-use Rattle.ep_pad_state.proofs.Outcomes.{leave-left, leave-dead}
+use Rattle.ep_pad_state.proofs.Outcomes.{leave-left}
 use Rattle.ep_pad_state.proofs.Pads.{left-sound, live-there}
 use Rattle.ep_pad_state.proofs.Keeping.{keeps-seats}
 use Rattle.ep_pad_state.proofs.pad.Pad.leave.Goals as goal

@@ -1,4 +1,4 @@
-use Rattle.std.proofs.Common.{◌≡◌, None, true, inl, sym, ap, ◌∙◌}
+use Rattle.std.proofs.Common.{inl, sym, ap, ◌∙◌}
 use Rattle.std.proofs.lemmas.Result.{err_from_is_err_and}
 use Rattle.ep_history.specs.Pad.{newest, with_session}
 use Rattle.ep_history.specs.Entries.Answer.{ResumeAnswer}
