@@ -5,14 +5,14 @@ ghost use Rattle.ep_house.specs.Pads.{IsPassOf, cell_of, known, name_of};
 ghost use Rattle.ep_pad.specs.Asking.{Asks};
 ghost use Rattle.ep_pad.specs.Entries.{MayAsk, Suits, entry_of};
 
-use crate::house::House;
+use crate::house::HouseOf;
 use crate::pad_calls::PadCalls;
 use ep_house::PadPass;
-use ep_outside::Shelf;
+use ep_outside::{Keeper, Shelf};
 use ep_pad::{PadEntry, PadReply};
 use std::sync::Wait;
 
-impl<H: Shelf + Drop, P: PadCalls<H::D>> House<H, P> {
+impl<H: Shelf + Drop, P: PadCalls<H::D>, K: Keeper + Drop> HouseOf<H, P, K> {
     pub(crate) fn ask<R: Wait>(&self, rt: &R, pass: &mut PadPass<H, P>, entry: PadEntry) -> PadReply
         requires of { IsPassOf self.now.pads pass.old }
         requires may { MayAsk (entry_of entry) }

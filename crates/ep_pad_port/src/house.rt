@@ -1,26 +1,41 @@
-//! The pads of a house, and where memory comes from.
+//! A house: the pads of a server, each on its file, and its directory.
 
 ghost use Rattle.std.specs.Prelude.{◌≡◌, IfOk};
 ghost use Rattle.ep_pad_port.specs.House.{limits_of};
 
-use ep_house::{PadOver, Pads};
-use ep_outside::{Limits, Shelf};
+use ep_house::{Directory, PadOver, Pads};
+use ep_outside::{Keeper, Limits, Shelf};
+use ep_pad::PadMachine;
 use ep_units::NoMemory;
 use std::alloc::Global;
 
-/// The pads that stand on a shelf. With `PadMachine` for `P` it is a `PadPort`.
+/// The pads that stand on a shelf, and the directory that stands in a keeper. They share nothing.
+pub type House<H, K> = HouseOf<H, PadMachine<<H as Shelf>::D>, K>;
+
+/// A house whose pads are such machines. Where these make the calls of a pad it is a `PadPort`, and it is a `DirPort`.
 #[derive(Drop)]
-pub struct House<H: Shelf + Drop, P: PadOver<H::D>> {
+pub struct HouseOf<H: Shelf + Drop, P: PadOver<H::D>, K: Keeper + Drop> {
     pub(crate) alloc: Global,
     pub(crate) pads: Pads<H, P>,
+    pub(crate) directory: Directory<K>,
 }
 
-impl<H: Shelf + Drop, P: PadOver<H::D>> House<H, P> {
-    /// No pad is open.
-    pub fn open(alloc: Global, shelf: H, limits: Limits) -> Result<House<H, P>, NoMemory>
+impl<H: Shelf + Drop, P: PadOver<H::D>, K: Keeper + Drop> HouseOf<H, P, K> {
+    /// No pad is open, and no call of the directory was made.
+    pub fn open(
+        alloc: Global,
+        shelf: H,
+        keeper: K,
+        limits: Limits,
+    ) -> Result<HouseOf<H, P, K>, NoMemory>
         ensures limits { IfOk result (λ house. limits_of house ≡ limits) }
     {
+        let directory = Directory::open(alloc, keeper)?;
         let pads = Pads::open(alloc, shelf, limits)?;
-        Ok(House { alloc, pads })
+        Ok(HouseOf {
+            alloc,
+            pads,
+            directory,
+        })
     }
 }

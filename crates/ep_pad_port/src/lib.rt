@@ -1,15 +1,23 @@
-//! The port of a server's pads: the calls of `PadPort` over the pads of a house, each pad on its file.
+//! A house: the pads of a server, each on its file, and its directory, as one value that many threads share.
 //!
-//! A call copies what it is given by reference, makes one call of the pad's machine, and hands on its answer. The crates
-//! above take any `PadPort`, and rest on its clauses; only who opens the pads names this one. It is not for what a call
-//! answers, which stands with the pad, nor for which cell a name has.
+//! It is both ports. A call of the pads' port copies what it is given by reference, makes one call of the pad's machine,
+//! and hands on its answer; the directory's calls are those of `ep_house`. The crates above take any `PadPort` and any
+//! `DirPort`, and rest on the clauses of these; only who opens a house names it. It is not for what a call answers, which
+//! stands with the pad and with the directory, nor for which cell a name has.
 #![tactic(auto)]
 
 mod asking;
-mod calls;
 mod copying;
+mod dir_port;
+#[cfg(test)]
+mod dir_tests;
+#[cfg(test)]
+mod held;
 mod house;
 mod pad_calls;
+mod pad_port;
+#[cfg(test)]
+mod tests;
 
-pub use house::House;
+pub use house::{House, HouseOf};
 pub use pad_calls::PadCalls;

@@ -1,12 +1,12 @@
-//! The calls of the port.
+//! The calls of the pads' port.
 
 use crate::copying::{copied_author, copied_grant};
-use crate::house::House;
+use crate::house::HouseOf;
 use crate::pad_calls::PadCalls;
 use ep_apply::Doc;
 use ep_cs::Change;
 use ep_house::{Hall, PadPass};
-use ep_outside::{Limits, Shelf};
+use ep_outside::{Keeper, Limits, Shelf};
 use ep_pad::{
     CatchUp, Committed, Fetched, PadBad, PadEntry, PadPort, PadReply, PadStatus, PassBad, Piece,
     Welcome,
@@ -14,7 +14,7 @@ use ep_pad::{
 use ep_units::{Grant, PadId, Session, Units};
 use std::sync::Wait;
 
-impl<H: Shelf + Drop, P: PadCalls<H::D>> PadPort for House<H, P> {
+impl<H: Shelf + Drop, P: PadCalls<H::D>, K: Keeper + Drop> PadPort for HouseOf<H, P, K> {
     ghost use Rattle.ep_house.specs.Register.{IsLegal};
     ghost use Rattle.ep_house.specs.Pads.{IsHallOf, IsPassOf};
     ghost use Rattle.ep_house.specs.Pads as pads;

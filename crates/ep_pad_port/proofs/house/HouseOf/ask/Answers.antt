@@ -1,7 +1,7 @@
 use Rattle.std.proofs.Common.{◌∙◌}
 use Rattle.ep_house.specs.Pads.{known}
 use Rattle.ep_pad_port.proofs.Replied.{suits}
-use Rattle.ep_pad_port.proofs.house.House.ask.Goals as goal
+use Rattle.ep_pad_port.proofs.house.HouseOf.ask.Goals as goal
 
 pub returns-clause-of : goal.returns-clause-of
 returns-clause-of g c = c.call.ensures.pad.2 ∙ c.requires.of
