@@ -1,0 +1,5 @@
+pub mod Causes
+pub mod Rereading
+pub mod Naming
+pub mod One
+pub mod Telling

@@ -1,0 +1,8 @@
+use Rattle.std.proofs.Common.{◌≡◌, ℕ, List}
+use Rattle.ep_journal.specs.File.{records_of}
+use Rattle.ep_pad.proofs.Fronts.{AreRead}
+use Rattle.ep_verify.specs.Verdicts.{no_limits}
+use Rattle.ep_verify.proofs.judging.reread.Given as goal
+
+abbrev pub invariant-loop-i : goal.invariant-loop-i
+invariant-loop-i l = (file : List ℕ) → records_of file ≡ l.fn.records → AreRead no_limits file l.pad l.i
