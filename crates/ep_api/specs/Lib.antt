@@ -1,0 +1,6 @@
+pub mod Causes
+pub mod Tasks
+pub mod Functions
+pub mod Passes
+pub mod Legal
+pub mod Served
