@@ -14,6 +14,8 @@ mod dir_calls;
 #[cfg(test)]
 mod dir_tests;
 mod directory;
+#[cfg(test)]
+mod held;
 mod named;
 mod pad_machine;
 mod pad_over;

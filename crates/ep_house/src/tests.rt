@@ -1,20 +1,26 @@
-//! Pads of toys, and a pad on its file.
+//! Pads of toys, with threads.
 
+ghost use Rattle.std.specs.Prelude.{◌≡◌};
 ghost use Rattle.ep_house.specs.Pads.{IsHallOf};
 
-use crate::toy::Toy;
-use crate::{Hall, Pads};
+use crate::held::{Gate, HeldDisk, HeldShelf, waits};
+use crate::toy::{Toy, ToyBad, ToyEntry};
+use crate::{Hall, PadPass, Pads};
 use ep_disk_mem::{MemDisk, MemFile, MemShelf};
 use ep_outside::{Failed, Limits};
 use ep_pad::{PadBad, PadEntry, PadMachine, PadReply, PassBad};
 use ep_units::{PadId, Units};
 use std::alloc::Global;
-use std::sync::Wait;
+use std::sync::atomic::Ordering;
+use std::sync::{Arc, Wait};
 use std::test::Fail;
+use std::thread::join;
 
 type MemPads = Pads<MemShelf, Toy<MemDisk>>;
 
 type MemHall = Hall<MemShelf, Toy<MemDisk>>;
+
+type HeldPass = PadPass<HeldShelf, Toy<HeldDisk>>;
 
 const LIMITS: Limits = Limits {
     live: 64,
@@ -37,7 +43,7 @@ fn file(alloc: Global, name: &str, text: &str, fails: &[u64]) -> Result<MemFile,
     })
 }
 
-/// How long a pad's disk was; `None` where it is not opened.
+/// What a pad reads; `None` where it is not opened or not read.
 fn stored<R: Wait>(
     rt: &R,
     alloc: Global,
@@ -51,7 +57,15 @@ fn stored<R: Wait>(
     let Ok(mut pass) = pads.pass(rt, hall, &id(alloc, name)?) else {
         return Ok(None);
     };
-    Ok(Some(pass.call(rt, ())))
+    Ok(pass.call(rt, ToyEntry::Read).ok())
+}
+
+/// Waits until the first disk is in its sync, adds to the second pad, and lets the first go on.
+fn add_meanwhile<R: Wait>(rt: &R, pass: &mut HeldPass, gate: &Gate) -> (bool, Result<u64, ToyBad>) {
+    let begun = waits(&gate.begun);
+    let answer = pass.call(rt, ToyEntry::Add(7));
+    gate.opened.store(true, Ordering::SeqCst);
+    (begun, answer)
 }
 
 #[test]
@@ -99,6 +113,38 @@ fn refusals_have_their_causes(rt: HostRuntime) -> Result<(), Fail> {
         )
     );
     assert!(&rt; pads.pass(&rt, &mut hall, &id(alloc, "b")?).is_ok());
+    Ok(())
+}
+
+/// Pad A's disk holds a sync until pad B has answered.
+#[test]
+fn two_pads_at_once(rt: HostRuntime) -> Result<(), Fail> {
+    let alloc = rt.alloc();
+    let gate = Arc::new(alloc, Gate::new())?;
+    let shelf = MemShelf::new(alloc, Vec::new(alloc), Vec::new(alloc))?;
+    let shelf = HeldShelf::new(shelf, Arc::try_clone(&gate)?);
+    let pads: Pads<HeldShelf, Toy<HeldDisk>> = Pads::open(alloc, shelf, LIMITS)?;
+    let mut hall = pads.hall(&rt);
+    let (Ok(mut a), Ok(mut b)) = (
+        pads.pass(&rt, &mut hall, &id(alloc, "a")?),
+        pads.pass(&rt, &mut hall, &id(alloc, "b")?),
+    ) else {
+        panic!(&rt; "no passes")
+    };
+    assert_eq!(&rt; a.call(&rt, ToyEntry::Add(1)), Ok(1));
+    assert_eq!(&rt; b.call(&rt, ToyEntry::Add(1)), Ok(1));
+    gate.armed.store(true, Ordering::SeqCst);
+    let (first, second) = join(
+        &rt,
+        || a.call(&rt, ToyEntry::Add(5)),
+        || add_meanwhile(&rt, &mut b, &gate),
+    );
+    assert_eq!(&rt; first, Ok(6));
+    assert_eq!(&rt; second, (true, Ok(8)));
+    assert!(&rt;
+        !gate.late.load(Ordering::SeqCst),
+        "pad A's sync waited too long"
+    );
     Ok(())
 }
 

@@ -1,4 +1,4 @@
-//! A toy in the place of a pad, for tests: it answers how long its disk was when it was opened.
+//! A toy in the place of a pad, for tests: a counter over a disk.
 
 ghost use Rattle.std.specs.Prelude.{◌≡◌};
 
@@ -6,17 +6,44 @@ use crate::PadOver;
 use ep_outside::{Disk, Limits, Machine, Refused};
 use std::alloc::Global;
 
-/// The length of a disk.
+/// Why a call did nothing.
+#[derive(Clone, Copy, Debug, PartialEq, Eq)]
+pub enum ToyBad {
+    Store(u64),
+    NoMemory,
+}
+
+/// A call of the toy.
+#[derive(Clone, Copy, Debug, Drop)]
+pub enum ToyEntry {
+    Add(u64),
+    Read,
+}
+
+/// A counter. It begins with the length of its disk, and each addition syncs twice.
 #[derive(Drop)]
 pub struct Toy<D> {
     disk: D,
     total: u64,
 }
 
-impl<D: Disk + Drop> Machine for Toy<D> {
-    type Entry = ();
+impl<D: Disk> Toy<D> {
+    fn add(&mut self, n: u64) -> Result<u64, ToyBad> {
+        if self.disk.reserve(0).is_err() {
+            return Err(ToyBad::NoMemory);
+        }
+        if self.disk.sync().is_err() || self.disk.sync().is_err() {
+            return Err(ToyBad::Store(self.disk.faults()));
+        }
+        self.total = self.total.wrapping_add(n);
+        Ok(self.total)
+    }
+}
 
-    type Reply = u64;
+impl<D: Disk + Drop> Machine for Toy<D> {
+    type Entry = ToyEntry;
+
+    type Reply = Result<u64, ToyBad>;
 
     ghost allows = { λ _. Unit {0} };
 
@@ -26,8 +53,11 @@ impl<D: Disk + Drop> Machine for Toy<D> {
 
     ghost stands_legal = { λ _ _ all. all };
 
-    fn call(&mut self, _entry: ()) -> u64 {
-        self.total
+    fn call(&mut self, entry: ToyEntry) -> Result<u64, ToyBad> {
+        match entry {
+            ToyEntry::Add(n) => self.add(n),
+            ToyEntry::Read => Ok(self.total),
+        }
     }
 }
 

@@ -11,8 +11,6 @@ mod copying;
 mod dir_port;
 #[cfg(test)]
 mod dir_tests;
-#[cfg(test)]
-mod held;
 mod house;
 mod pad_calls;
 mod pad_port;

@@ -1,24 +1,21 @@
-//! Pads on their files, by the calls of their port, with threads.
+//! Pads on their files, by the calls of their port.
 
-ghost use Rattle.std.specs.Prelude.{IfOk};
+ghost use Rattle.std.specs.Prelude.{[], IfOk};
 ghost use Rattle.ep_cell.specs.Passes.{IsOf};
 
 use crate::House;
-use crate::held::{Gate, HeldShelf, waits};
 use ep_apply::Doc;
 use ep_cell::{Cell, Pass};
 use ep_disk_mem::{MemDisk, MemFile, MemShelf};
 use ep_groups::{DirBad, DirPort, Drawn};
 use ep_keep::MapKeeper;
-use ep_outside::{Disk, Failed, Limits};
+use ep_outside::{Disk, Limits, Machine};
 use ep_pad::{PadBad, PadEntry, PadMachine, PadPort, PadReply, PassBad};
 use ep_step::newline_change;
 use ep_units::{Grant, NoMemory, PadId, Units};
 use std::alloc::Global;
-use std::sync::atomic::Ordering;
-use std::sync::{Arc, Wait};
+use std::sync::Wait;
 use std::test::Fail;
-use std::thread::join;
 
 type MemHouse = House<MemShelf, MapKeeper>;
 
@@ -46,7 +43,9 @@ fn grant(alloc: Global) -> Result<Grant, NoMemory> {
     })
 }
 
-fn machine(alloc: Global) -> Result<PadMachine<MemDisk>, Fail> {
+fn machine(alloc: Global) -> Result<PadMachine<MemDisk>, Fail>
+    ensures { IfOk result (λ m. ⟦<PadMachine<MemDisk> as Machine>⟧.stands m []) }
+{
     let disk = MemDisk::new(alloc, Vec::new(alloc), Vec::new(alloc))?;
     match PadMachine::open(alloc, disk, LIMITS) {
         Ok(pad) => Ok(pad),
@@ -173,51 +172,6 @@ fn refused<R: Wait, P: PadPort>(
     }
 }
 
-/// A pass of a pad that it makes.
-fn made<R: Wait, P: PadPort>(
-    rt: &R,
-    alloc: Global,
-    port: &P,
-    hall: &mut P::Hall,
-    name: &str,
-) -> Result<P::Pass, Fail>
-    requires { P.is_hall port.now hall.old }
-    ensures hall { P.is_hall port.now hall.new }
-    ensures of { IfOk result (λ pass. P.is_of port.now pass) }
-{
-    let Ok(mut pass) = port.pass(rt, hall, &id(alloc, name)?) else {
-        return Err(Fail::from(Failed));
-    };
-    port.create(rt, &mut pass, &Units::from_str(alloc, "first")?, 1)?;
-    Ok(pass)
-}
-
-/// Whether a text was set.
-fn sets<R: Wait, P: PadPort>(rt: &R, alloc: Global, port: &P, pass: &mut P::Pass) -> bool
-    requires { P.is_of port.now pass.old }
-{
-    match Units::from_str(alloc, "later") {
-        Ok(text) => port.set_text(rt, pass, &text, 2).is_ok(),
-        Err(_) => false,
-    }
-}
-
-/// Waits until the first disk is in its sync, sets a text meanwhile, and lets the first go on.
-fn sets_meanwhile<R: Wait, P: PadPort>(
-    rt: &R,
-    alloc: Global,
-    port: &P,
-    pass: &mut P::Pass,
-    gate: &Gate,
-) -> (bool, bool)
-    requires { P.is_of port.now pass.old }
-{
-    let begun = waits(&gate.begun);
-    let is_set = sets(rt, alloc, port, pass);
-    gate.opened.store(true, Ordering::SeqCst);
-    (begun, is_set)
-}
-
 /// The directory's grant of a pad to somebody with a token.
 fn granted<R: Wait, P: DirPort>(
     rt: &R,
@@ -285,33 +239,6 @@ fn refusals_have_their_causes(rt: HostRuntime) -> Result<(), Fail> {
     let other = refused(&rt, alloc, &house, &mut hall, "b")?;
     assert!(&rt; matches!(other, Some(PassBad::Pads(1))));
     assert!(&rt; refused(&rt, alloc, &house, &mut hall, "a")?.is_none());
-    Ok(())
-}
-
-/// Pad A's disk holds a sync until pad B has answered.
-#[test]
-fn two_pads_at_once(rt: HostRuntime) -> Result<(), Fail> {
-    let alloc = rt.alloc();
-    let gate = Arc::new(alloc, Gate::new())?;
-    let shelf = MemShelf::new(alloc, Vec::new(alloc), Vec::new(alloc))?;
-    let shelf = HeldShelf::new(shelf, Arc::try_clone(&gate)?);
-    let keeper = MapKeeper::new(alloc, Vec::new(alloc));
-    let house: House<HeldShelf, MapKeeper> = House::open(alloc, shelf, keeper, LIMITS)?;
-    let mut hall = house.hall(&rt);
-    let mut a = made(&rt, alloc, &house, &mut hall, "a")?;
-    let mut b = made(&rt, alloc, &house, &mut hall, "b")?;
-    gate.armed.store(true, Ordering::SeqCst);
-    let (first, second) = join(
-        &rt,
-        || sets(&rt, alloc, &house, &mut a),
-        || sets_meanwhile(&rt, alloc, &house, &mut b, &gate),
-    );
-    assert!(&rt; first);
-    assert_eq!(&rt; second, (true, true));
-    assert!(&rt;
-        !gate.late.load(Ordering::SeqCst),
-        "pad A's sync waited too long"
-    );
     Ok(())
 }
 
