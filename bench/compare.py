@@ -35,6 +35,10 @@ ITEMS = [
     ("slide 10,000 letters by 100, 10,000 units, each letter", "slide", 10_000, 50, ["compose10000/fold"], "compose10000/fold"),
     ("hear a revision with one unsent letter, 10,000 units", "hear", 10_000, 50, ["10KB/hear"], None),
     ("hear a revision with one unsent letter, 1,000,000 units", "hear", 1_000_000, 5, ["1MB/hear"], None),
+    ("read a browser's message with a small edit", "read-changes", 10_000, 100_000, ["10KB/read-changes"], None),
+    ("print the news of a small edit", "print-news", 10_000, 100_000, ["10KB/print-news"], None),
+    ("print what a client is told, 10,000 units, runs of 50", "print-vars", 10_000, 1_000, ["10KB/print-vars"], None),
+    ("print what a client is told, 1,000,000 units, runs of 50", "print-vars", 1_000_000, 20, ["1MB/print-vars"], None),
 ]
 
 # how many of the single operations that the others time there are in one of ours
@@ -67,7 +71,9 @@ def microseconds(command, runs):
 def main():
     program, peers, floor_program = sys.argv[1:4]
     theirs = microseconds(["node", f"{peers}/js-easysync/bench.js", "0.5"], 3)
-    theirs |= microseconds(["node", f"{os.path.dirname(os.path.abspath(__file__))}/hear.js", peers, "3"], 1)
+    own = os.path.dirname(os.path.abspath(__file__))
+    for script, runs in ("hear.js", 1), ("messages.js", 3):
+        theirs |= microseconds(["node", f"{own}/{script}", peers, "3"], runs)
     with tempfile.TemporaryDirectory() as folder:
         least = microseconds([floor_program, folder], 5)
     for name, word, units, count, items, floor in ITEMS:

@@ -11,7 +11,8 @@ import subprocess
 import sys
 import tempfile
 
-TABLE = "CREATE TABLE kept(name TEXT PRIMARY KEY NOT NULL, value TEXT NOT NULL)"
+# number, name, type, whether it is never NULL, default, place in the primary key
+COLUMNS = "0|name|TEXT|1||1\n1|value|TEXT|1||0"
 
 FIRST = "create_group\ncreate_author Ann\ncreate_session g.abcdefghij000000 a.abcdefghij000001 100 50\nauthor_name a.abcdefghij000001\n"
 
@@ -34,7 +35,8 @@ def main():
     with tempfile.TemporaryDirectory() as folder:
         path = os.path.join(folder, "directory.db")
         first = played(command, path, FIRST)
-        schema = shell(path, "SELECT sql FROM sqlite_schema WHERE type = 'table'")
+        tables = shell(path, "SELECT name FROM sqlite_schema WHERE type = 'table'")
+        columns = shell(path, "PRAGMA table_info(kept)")
         kept = shell(path, "SELECT name, value FROM kept ORDER BY name").splitlines()
         sound = shell(path, "PRAGMA integrity_check")
         shell(path, "UPDATE kept SET value = 'Renamed' WHERE name = 'a/a.abcdefghij000001'")
@@ -42,7 +44,8 @@ def main():
         left = shell(path, "SELECT name, value FROM kept ORDER BY name").splitlines()
     for line in [*first, *kept, *second, *left]:
         print(line)
-    seen = schema == TABLE and sound == "ok" and first[3] == "Ann" and "a/a.abcdefghij000001|Ann" in kept
+    table = tables == "kept" and columns == COLUMNS and sound == "ok"
+    seen = table and first[3] == "Ann" and "a/a.abcdefghij000001|Ann" in kept
     changed = second[0] == "Renamed" and "a/a.abcdefghij000001|Renamed" in left and "a/a.abcdefghij000003|Bo" in left
     return 0 if seen and changed else 1
 

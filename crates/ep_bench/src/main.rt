@@ -1,11 +1,13 @@
 //! Runs one operation many times on generated data, to be measured from outside, and prints a checksum.
 #![tactic(auto)]
 
+mod cells;
 mod colliding;
 mod data;
 mod draws;
 mod hearing;
 mod journal;
+mod messages;
 mod revising;
 mod two;
 mod typing;
@@ -16,7 +18,7 @@ use std::env;
 use work::Work;
 
 const USAGE: &str =
-    "usage: ep_bench read|print|pool|pool-collide|fits|apply|apply-runs|compose|follow|rebase|slide|hear|encode|decode UNITS COUNT";
+    "usage: ep_bench read|print|pool|pool-collide|fits|apply|apply-runs|compose|follow|rebase|slide|hear|encode|decode|read-changes|print-news|print-vars UNITS COUNT";
 
 fn checksum(rt: &HostRuntime) -> Result<u64> {
     let mut words = env::args(rt)?.skip(1);
@@ -32,6 +34,9 @@ fn checksum(rt: &HostRuntime) -> Result<u64> {
 fn main(rt: HostRuntime) -> Result<()> {
     if journal::run(&rt)? {
         return Ok(());
+    }
+    if let Some(count) = cells::asked(&rt)? {
+        return cells::time(&rt, rt.alloc(), count);
     }
     let sum = checksum(&rt)?;
     println!(rt; "{sum}")?;

@@ -8,6 +8,7 @@ use crate::colliding::colliding;
 use crate::data::{AUTHORS, attribs, document, edit};
 use crate::draws::Draws;
 use crate::hearing::hear_edits;
+use crate::messages::{print_news, print_vars, read_changes};
 use crate::revising::{decode_records, encode_records};
 use crate::two::{compose_edits, follow_edits, rebase_edits};
 use crate::typing::slide_typing;
@@ -27,7 +28,7 @@ const EDITS: usize = 512;
 pub const DOC_EDITS: usize = 64;
 
 /// How many units have one attribute in a document of runs.
-const RUN: usize = 50;
+pub const RUN: usize = 50;
 
 /// An operation that can be measured.
 #[derive(Clone, Copy, Debug, PartialEq, Eq)]
@@ -60,6 +61,12 @@ pub enum Work {
     Encode,
     /// The record of a small revision is read.
     Decode,
+    /// A browser's message with a small edit is read.
+    ReadChanges,
+    /// The news of a small edit are printed.
+    PrintNews,
+    /// What a client is told that enters a document with another attribute each 50 units is printed.
+    PrintVars,
 }
 
 impl Work {
@@ -79,6 +86,9 @@ impl Work {
             "hear" => Some(Work::Hear),
             "encode" => Some(Work::Encode),
             "decode" => Some(Work::Decode),
+            "read-changes" => Some(Work::ReadChanges),
+            "print-news" => Some(Work::PrintNews),
+            "print-vars" => Some(Work::PrintVars),
             _ => None,
         }
     }
@@ -99,6 +109,9 @@ impl Work {
             Work::Hear => hear_edits(alloc, units, count),
             Work::Encode => encode_records(alloc, units, count),
             Work::Decode => decode_records(alloc, units, count),
+            Work::ReadChanges => read_changes(alloc, units, count),
+            Work::PrintNews => print_news(alloc, units, count),
+            Work::PrintVars => print_vars(alloc, units, count),
         }
     }
 }
