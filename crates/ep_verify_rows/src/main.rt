@@ -3,6 +3,8 @@
 //! The files are those of one shelf, judged by four workers and by one.
 #![tactic(auto)]
 
+ghost use Rattle.std.specs.Prelude.{◌≤◌};
+
 use anyhow::{Context, Result, anyhow};
 use ep_disk_mem::{MemFile, MemShelf};
 use ep_units::{PadId, Units};
@@ -31,12 +33,9 @@ fn said(alloc: Global, what: What) -> Result<String> {
 }
 
 /// The verdicts on these files by so many workers.
-fn judged(
-    rt: &impl Threads,
-    alloc: Global,
-    lines: &[String],
-    workers: u32,
-) -> Result<Vec<Verdict>> {
+fn judged(rt: &impl Threads, alloc: Global, lines: &[String], workers: u32) -> Result<Vec<Verdict>>
+    requires { (1 ≤ workers) × (workers ≤ 64) }
+{
     let mut files = Vec::new(alloc);
     for (number, digits) in lines.iter().enumerate() {
         files.push(file(alloc, number, digits)?)?;
