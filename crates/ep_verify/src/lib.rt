@@ -9,8 +9,6 @@ mod file;
 mod judging;
 mod laws;
 mod running;
-#[cfg(test)]
-mod tests;
 mod verdict;
 mod verdicts;
 mod verify_bad;
