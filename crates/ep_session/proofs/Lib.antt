@@ -1,0 +1,9 @@
+pub mod Passes
+pub mod Running
+pub mod Coming
+pub mod Acting
+pub mod Sent
+pub mod Turning
+pub mod Opening
+pub mod Telling
+pub mod Cursor

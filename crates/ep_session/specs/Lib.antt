@@ -1,0 +1,10 @@
+pub mod Ends
+pub mod Session
+pub mod Drawing
+pub mod Passing
+pub mod Says
+pub mod Served
+pub mod Output
+pub mod Acts
+pub mod Beginning
+pub mod Steps

@@ -1,0 +1,28 @@
+-- What a pass made, as a session has it.
+use Rattle.std.specs.Prelude.{◌≡◌, List, [], ◌∷◌, ◌++◌, Option, Some, None}
+use Rattle.ep_cell.specs.declared.view.Call.{Call}
+use Rattle.ep_cell.specs.History.{calls_by, pairs}
+use Rattle.ep_cell.specs.Passes.{Known}
+
+module _ {E R : Type 0} where
+  -- the calls of a pass, in order
+  abbrev pub own : Known E R → List (E × R)
+  own v = pairs (calls_by v.number v.seen)
+
+  -- what a pass has seen goes on, and its own calls among it are these
+  pub record Goes (old new : Known E R) (calls : List (E × R)) : Type 0 where
+    pub number : new.number ≡ old.number
+    pub between : List (Call E R)
+    pub seen : new.seen ≡ old.seen ++ between
+    pub made : own new ≡ own old ++ calls
+
+-- the calls of a pass that was taken, or none
+abbrev pub own_of : {P E R : Type 0} → (P → Known E R) → Option P → List (E × R)
+own_of known None = []
+own_of known (Some p) = own (known p)
+
+-- where both are there
+abbrev pub IfBoth : {A B : Type 0} → Option A → Option B → (A → B → Type 0) → Type 0
+IfBoth (Some a) (Some b) P = P a b
+IfBoth None None P = Unit {0}
+IfBoth a b P = ⊥

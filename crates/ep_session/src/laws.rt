@@ -1,0 +1,39 @@
+//! What the walk of a session implies.
+
+ghost use Rattle.std.specs.Prelude.{ℕ, List, [], ◌∷◌, ◌++◌};
+ghost use Rattle.ep_dir_records.specs.declared.ids.Drawn.{Drawn};
+ghost use Rattle.ep_link.specs.declared.passed.LinkGot.{LinkGot};
+ghost use Rattle.ep_session.specs.Acts.{AreCalled, IsReady};
+ghost use Rattle.ep_session.specs.Beginning.{IsBegun};
+ghost use Rattle.ep_session.specs.Output.{IsCursor, IsOutput, place_at};
+ghost use Rattle.ep_session.specs.Session.{Did, Greet, Heard, Outcome, Runs, calls_of, nowhere};
+
+/// The directory is asked once at most, by the first message; the registry once at most, for the granted pad; the
+/// first call of the pad logs in or resumes by that grant. A session that was refused there ended so.
+pub fn begins_in_order()
+    ensures { (drawn : Drawn) (log : List Did) (out : Outcome) → Runs nowhere (Greet drawn ∷ []) log out → IsBegun drawn log out }
+{}
+
+/// Each edit that was read is brought to the pad, and each request for steps is asked of it, in order; the last may be
+/// missing.
+pub fn asks_as_told()
+    ensures { (drawn : Drawn) (log : List Did) (out : Outcome) → Runs nowhere (Greet drawn ∷ []) log out → AreCalled log }
+{}
+
+/// Before each receive behind the login all that was new is told: the last call is a fetch that reached the head, and
+/// the cursor is that head.
+pub fn tells_before_hearing()
+    ensures { (drawn : Drawn) (log more : List Did) (g : LinkGot) (n : ℕ) (out : Outcome) → Runs nowhere (Greet drawn ∷ []) (log ++ Heard g n ∷ more) out → IsReady nowhere (Greet drawn ∷ []) log }
+{}
+
+/// What a session sends, beside the steps of timesliders, is a beginning of what its calls of the pad say: the document,
+/// or that nothing was missed; and then each revision and each edit that has become nothing that its fetches brought.
+pub fn sends_its_output()
+    ensures { (drawn : Drawn) (log : List Did) (out : Outcome) → Runs nowhere (Greet drawn ∷ []) log out → IsOutput log (calls_of log) }
+{}
+
+/// The revisions that were told are those behind the start, in order, up to the cursor; that an edit has become nothing is
+/// told with the number of the revision that was told last.
+pub fn cursor_counts()
+    ensures { (drawn : Drawn) (log : List Did) (out : Outcome) → Runs nowhere (Greet drawn ∷ []) log out → IsCursor log (place_at out) }
+{}
