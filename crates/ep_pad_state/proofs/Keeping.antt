@@ -1,5 +1,6 @@
 -- What a pad in memory keeps after each change.
 use Rattle.std.proofs.Common.{◌≡◌, ℕ, ◌+◌, ◌≤◌, true, false, List, [], ◌∷◌, ◌++◌, length, refl, sym, ap, ◌∙◌, subst, arith}
+use Rattle.ep_units.specs.declared.session.Session.{Session}
 use Rattle.ep_history.specs.declared.rev.Rev.{Rev}
 use Rattle.ep_history.specs.declared.nop.Nop.{Nop}
 use Rattle.ep_history.specs.declared.seat.Seat.{Seat}
@@ -12,8 +13,10 @@ use Rattle.ep_pad_state.specs.declared.birth.Birth.{Birth as Kept}
 use Rattle.ep_pad_state.specs.declared.pad.Last.{Last}
 use Rattle.ep_pad_state.specs.declared.pad.Last.TheVariants.{There, Gone}
 use Rattle.ep_pad_state.specs.declared.pad.Pad.{Pad}
-use Rattle.ep_pad_state.specs.Held.{IsBirth, IsLast, Keeps}
+use Rattle.ep_pad_state.specs.Nops.{heads_of, heads_in, SameHeads, StandFor}
+use Rattle.ep_pad_state.specs.Held.{HasRevs, IsBirth, IsLast, IsPad, Keeps}
 use Rattle.ep_pad_state.specs.Making.{birth_of, with_birth}
+use Rattle.ep_pad_state.proofs.Noting.{heads_in-append, unchanged}
 use Rattle.ep_pad_state.proofs.Pads.{newest-revs, newest-nops, newest-born, count-born, last-of}
 
 -- ---- what is known of the last birth
@@ -27,20 +30,20 @@ birth-of k b p h l = let t = subst (λ x. IsLast x p) l h.last in t.1
 pub absent-of : (k : Pad) (n : ℕ) (p : PadState) → Keeps k p → k.last ≡ Gone n → p.present ≡ false
 absent-of k n p h l = let t = subst (λ x. IsLast x p) l h.last in t.0
 
-pub head-doc-of : (b : Kept) (c : Birth) → IsBirth b c → last_doc b.revs.revs ≡ head_doc c
-head-doc-of b c h = ap last_doc h.revs ∙ last-of c
+pub head-doc-of : (b : Kept) (c : Birth) → HasRevs b c → last_doc b.revs.revs ≡ head_doc c
+head-doc-of b c h = ap last_doc h ∙ last-of c
 
-pub head-of : (b : Kept) (c : Birth) (n : ℕ) → IsBirth b c → length b.revs.revs ≡ n + 1 → n ≡ head c
-head-of b c n h e = let l = ap (λ (vs : List Rev). length vs) h.revs in omega (arith, l, e)
+pub head-of : (b : Kept) (c : Birth) (n : ℕ) → HasRevs b c → length b.revs.revs ≡ n + 1 → n ≡ head c
+head-of b c n h e = let l = ap (λ (vs : List Rev). length vs) h in omega (arith, l, e)
 
 -- ---- changes
 
 pub keeps-revs : (k : Pad) (p : PadState) (b c : Kept) (vs : List Rev) → Keeps k p → 1 ≤ length p.births → k.last ≡ There b
-    → c.revs.revs ≡ b.revs.revs ++ vs → c.nops.items ≡ b.nops.items → Keeps (record k { last = There c }) (with_revs p vs)
+    → c.revs.revs ≡ b.revs.revs ++ vs → c.nops ≡ b.nops → Keeps (record k { last = There c }) (with_revs p vs)
 keeps-revs k p b c vs h n l er en =
     let old = birth-of k b p h l in
     let new : IsBirth c (record { first = (newest p).first; later = (newest p).later ++ vs; nops = (newest p).nops }) =
-    record { revs = er ∙ ap (λ ws. ws ++ vs) old.revs; nops = en ∙ old.nops } in
+    record { revs = er ∙ ap (λ ws. ws ++ vs) old.revs; nops = λ s. unchanged b.nops c.nops en s ∙ old.nops s } in
     record {
       limits = h.limits;
       seats = record { epoch = h.seats.epoch; sessions = h.seats.sessions };
@@ -50,11 +53,11 @@ keeps-revs k p b c vs h n l er en =
     }
 
 pub keeps-nops : (k : Pad) (p : PadState) (b c : Kept) (xs : List Nop) → Keeps k p → 1 ≤ length p.births → k.last ≡ There b
-    → c.revs.revs ≡ b.revs.revs → c.nops.items ≡ b.nops.items ++ xs → Keeps (record k { last = There c }) (with_nops p xs)
+    → c.revs.revs ≡ b.revs.revs → ((s : Session) → heads_of s c.nops ≡ heads_of s b.nops ++ heads_in s xs) → Keeps (record k { last = There c }) (with_nops p xs)
 keeps-nops k p b c xs h n l er en =
     let old = birth-of k b p h l in
     let new : IsBirth c (record { first = (newest p).first; later = (newest p).later; nops = (newest p).nops ++ xs }) =
-    record { revs = er ∙ old.revs; nops = en ∙ ap (λ ys. ys ++ xs) old.nops } in
+    record { revs = er ∙ old.revs; nops = λ s. en s ∙ ap (λ hs. hs ++ heads_in s xs) (old.nops s) ∙ sym (heads_in-append s (newest p).nops xs) } in
     record {
       limits = h.limits;
       seats = record { epoch = h.seats.epoch; sessions = h.seats.sessions };
@@ -71,13 +74,13 @@ no-nops : (vs : List Rev) → 1 ≤ length vs → (birth_of vs).nops ≡ []
 no-nops [] h = absurd (omega (arith, h))
 no-nops (v ∷ vs) h = refl
 
-pub keeps-born : (k : Pad) (p : PadState) (c : Kept) → Keeps k p → 1 ≤ length c.revs.revs → c.nops.items ≡ []
+pub keeps-born : (k : Pad) (p : PadState) (c : Kept) → Keeps k p → 1 ≤ length c.revs.revs → StandFor c.nops []
     → Keeps (record k { births = k.births + 1; last = There c; public = false }) (with_birth p c.revs.revs)
 keeps-born k p c h s e =
     let vs = c.revs.revs in
     let n = count-born p.births (birth_of vs) in
     let m = h.births in
-    let new : IsBirth c (birth_of vs) = record { revs = first-later vs s; nops = e ∙ sym (no-nops vs s) } in
+    let new : IsBirth c (birth_of vs) = record { revs = first-later vs s; nops = λ t. e t ∙ ap (heads_in t) (sym (no-nops vs s)) } in
     record {
       limits = h.limits;
       seats = record { epoch = h.seats.epoch; sessions = h.seats.sessions };
@@ -121,7 +124,7 @@ keeps-seats k p s ls h st = record { limits = h.limits; seats = st; births = h.b
 
 -- ---- room
 
-pub same-birth : (k : Pad) (p : PadState) (b c : Kept) → Keeps k p → k.last ≡ There b → c.revs.revs ≡ b.revs.revs → c.nops.items ≡ b.nops.items
+pub same-birth : (k : Pad) (p : PadState) (b c : Kept) → Keeps k p → k.last ≡ There b → c.revs.revs ≡ b.revs.revs → SameHeads b.nops c.nops
     → Keeps (record k { last = There c }) p
 same-birth k p b c h l er en =
     let old = birth-of k b p h l in
@@ -130,8 +133,12 @@ same-birth k p b c h l er en =
       seats = h.seats;
       births = h.births;
       public = h.public;
-      last = (present-of k b p h l, record { revs = er ∙ old.revs; nops = en ∙ old.nops });
+      last = (present-of k b p h l, record { revs = er ∙ old.revs; nops = λ s. en s ∙ old.nops s });
     }
+
+-- room was made for a step's revisions
+pub same-pad : (k : Pad) (p : PadState) (b c : Kept) → IsPad k p → k.last ≡ There b → c.revs.revs ≡ b.revs.revs → c.nops ≡ b.nops → IsPad (record k { last = There c }) p
+same-pad k p b c h l er en = record { keeps = same-birth k p b c h.keeps l er (unchanged b.nops c.nops en); sound = h.sound }
 
 pub roomier : (s t : KeptSeats) (p : PadState) → t ≡ record s { room = t.room } → StandsFor s p → StandsFor t p
 roomier s t p e h = subst (λ u. StandsFor u p) (sym e) (record { epoch = h.epoch; sessions = h.sessions })

@@ -1,13 +1,10 @@
 -- What is read of the last birth, and what is pushed to it.
-use Rattle.std.proofs.Common.{◌≡◌, ℕ, zero, suc, ◌≤◌, Bool, true, false, cond, if◌then◌else◌, List, [], ◌∷◌, ◌++◌, map, length, take, drop, Some, min, refl, sym, ap, ◌∙◌, subst, arith}
-use Rattle.std.specs.List.{filter}
-use Rattle.ep_units.specs.declared.session.Session.{Session}
+use Rattle.std.proofs.Common.{◌≡◌, ℕ, zero, suc, ◌≤◌, List, [], ◌∷◌, ◌++◌, length, take, drop, Some, min, sym, ap, ◌∙◌, subst, arith}
 use Rattle.ep_cs.specs.Edit.{apply}
 use Rattle.ep_history.specs.declared.rev.Rev.{Rev}
-use Rattle.ep_history.specs.declared.nop.Nop.{Nop}
-use Rattle.ep_history.specs.History.{Birth, is_session, nops_of, head, doc_at, newline}
+use Rattle.ep_history.specs.History.{Birth, head, doc_at, newline}
 use Rattle.ep_history.specs.Lists.{at}
-use Rattle.ep_history.specs.Readings.{edited, last_rev, revs_behind, nop_heads}
+use Rattle.ep_history.specs.Readings.{edited, last_rev, revs_behind}
 use Rattle.ep_history.proofs.Lists.{some_same}
 use Rattle.ep_revs.specs.Revisions.{doc_of, last_doc, head_of}
 use Rattle.ep_step.specs.declared.revised.NewRev.{NewRev}
@@ -37,20 +34,6 @@ take-min (suc n) (v ∷ vs) = let e : min (suc (length vs)) (suc n) ≡ suc (min
 -- the first revisions behind one, all where they are fewer
 pub behind-of : (vs later : List Rev) (b : Birth) (r n : ℕ) → vs ≡ b.first ∷ b.later → later ≡ drop (suc r) vs → take (min (length later) n) later ≡ revs_behind b r n
 behind-of vs later b r n e l = take-min n later ∙ ap (take n) (l ∙ ap (drop (suc r)) e)
-
--- ---- edits that became nothing
-
-filtered : (s : Session) (xs : List Nop) → filter (λ x. is_session x.session s) xs ≡ nops_of s xs
-filtered s [] = refl
-filtered s (x ∷ xs) = go (is_session x.session s) (filtered s xs)
-  where
-    go : (t : Bool) → filter (λ y. is_session y.session s) xs ≡ nops_of s xs
-        → cond t (x ∷ filter (λ y. is_session y.session s) xs) (filter (λ y. is_session y.session s) xs) ≡ (if t then x ∷ nops_of s xs else nops_of s xs)
-    go true e = ap (λ ys. x ∷ ys) e
-    go false e = e
-
-pub heads-of : (s : Session) (xs : List Nop) (b : Birth) → xs ≡ b.nops → map (λ (x : Nop). x.rev) (filter (λ x. is_session x.session s) xs) ≡ nop_heads s b
-heads-of s xs b e = ap (map (λ (x : Nop). x.rev)) (filtered s xs ∙ ap (nops_of s) e)
 
 -- ---- pushes
 

@@ -1,5 +1,6 @@
 pub mod Pads
 pub mod Outcomes
+pub mod Noting
 pub mod Keeping
 pub mod Lasting
 pub mod Readying

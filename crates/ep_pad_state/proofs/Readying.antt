@@ -1,5 +1,5 @@
 -- Changes that are made ready.
-use Rattle.std.proofs.Common.{◌≡◌, ℕ, suc, ◌+◌, ◌<◌, ◌≤◌, ◌^◌, true, false, Bool, List, [], ◌∷◌, length, Option, Some, None, refl, sym, ap, ◌∙◌, subst, arith, vec_len, vec_capacity}
+use Rattle.std.proofs.Common.{◌≡◌, ℕ, suc, ◌+◌, ◌<◌, ◌≤◌, ◌^◌, true, false, Bool, List, [], ◌∷◌, length, Option, Some, None, refl, sym, ap, ◌∙◌, subst, arith}
 use Rattle.ep_units.specs.Text.{Text, is_well_formed}
 use Rattle.ep_cs.specs.Doc.{Doc}
 use Rattle.ep_cs.specs.Edit.{Edit}
@@ -26,6 +26,7 @@ use Rattle.ep_pad_state.specs.declared.birth.Birth.{Birth as Kept}
 use Rattle.ep_pad_state.specs.declared.change.PadChange.TheVariants as made_by
 use Rattle.ep_pad_state.specs.declared.pad.Last.TheVariants.{There}
 use Rattle.ep_pad_state.specs.declared.pad.Pad.{Pad}
+use Rattle.ep_pad_state.specs.Nops.{HasRoom, StandFor}
 use Rattle.ep_pad_state.specs.Held.{IsPad}
 use Rattle.ep_pad_state.specs.Making.{with_birth, CanGrow, TakesRevs, TakesNop, IsReady}
 use Rattle.ep_pad_state.proofs.Pads.{revs-sound, nops-sound, deleted-sound, public-sound, entered-sound}
@@ -57,24 +58,24 @@ ready-revs k b r by c l g er f e = record { takes = subst (λ x. TakesRevs x r) 
   where
     sound : (p : PadState) → IsPad k p → IsSoundPad (with_revs p (revs_of r))
     sound p h =
-        let d = head-doc-of b (newest p) (birth-of k b p h.keeps l) in
+        let d = head-doc-of b (newest p) (birth-of k b p h.keeps l).revs in
         subst (λ vs. IsSoundPad (with_revs p vs)) (sym (er ∙ ap (step_revs by c.edit) d))
         (revs-sound p by c h.sound (present-of k b p h.keeps l) (subst (λ doc. Fits c doc) d f) e)
 
-pub ready-nop : (k : Pad) (b : Kept) (x : Nop) → k.last ≡ There b → vec_len b.nops < vec_capacity b.nops → length b.revs.revs ≡ x.rev + 1 → IsReady k (made_by.Nop x)
-ready-nop k b x l room e = record { takes = subst TakesNop (sym l) room; sound = sound }
+pub ready-nop : (k : Pad) (b : Kept) (x : Nop) → k.last ≡ There b → HasRoom x.session b.nops → length b.revs.revs ≡ x.rev + 1 → IsReady k (made_by.Nop x)
+ready-nop k b x l room e = record { takes = subst (λ y. TakesNop y x) (sym l) room; sound = sound }
   where
     sound : (p : PadState) → IsPad k p → IsSoundPad (with_nops p (x ∷ []))
-    sound p h = nops-sound p x h.sound (present-of k b p h.keeps l) (head-of b (newest p) x.rev (birth-of k b p h.keeps l) e)
+    sound p h = nops-sound p x h.sound (present-of k b p h.keeps l) (head-of b (newest p) x.rev (birth-of k b p h.keeps l).revs e)
 
 born-sound : (p : PadState) (vs : List Rev) (now : ℕ) (text : Text) → IsSoundPad p → vs ≡ first_rev now text ∷ [] → is_well_formed text ≡ true → IsSoundPad (with_birth p vs)
 born-sound p vs now text s e w = subst (λ us. IsSoundPad (with_birth p us)) (sym e) (create-sound p now text s w)
 
-pub ready-birth : (k : Pad) (c : Kept) (now : ℕ) (text : Text) → k.births + 1 < 2 ^ 64 → c.nops.items ≡ [] → c.revs.revs ≡ first_rev now text ∷ [] → is_well_formed text ≡ true
+pub ready-birth : (k : Pad) (c : Kept) (now : ℕ) (text : Text) → k.births + 1 < 2 ^ 64 → StandFor c.nops [] → c.revs.revs ≡ first_rev now text ∷ [] → is_well_formed text ≡ true
     → IsReady k (made_by.Birth c)
 ready-birth k c now text n e r w = record { takes = record { count = n; nops = e }; sound = λ p h. born-sound p c.revs.revs now text h.sound r w }
 
-pub ready-first : (k : Pad) (c : Kept) (now : ℕ) (text author : Text) (read_only : Bool) → k.births + 1 < 2 ^ 64 → c.nops.items ≡ [] → c.revs.revs ≡ first_rev now text ∷ []
+pub ready-first : (k : Pad) (c : Kept) (now : ℕ) (text author : Text) (read_only : Bool) → k.births + 1 < 2 ^ 64 → StandFor c.nops [] → c.revs.revs ≡ first_rev now text ∷ []
     → is_well_formed text ≡ true → 0 < k.seats.room → HasNext k.seats → IsReady k (made_by.FirstLogin c author read_only)
 ready-first k c now text author read_only n e r w room next = record {
   takes = (record { count = n; nops = e }, record { room = room; next = next });

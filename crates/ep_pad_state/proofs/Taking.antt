@@ -34,7 +34,7 @@ use Rattle.ep_step.specs.Changes.{changes_of}
 use Rattle.ep_step.specs.Step.{step_of}
 use Rattle.ep_step.specs.Taking.{Leads, IsHeadOf, IsAsked, taken_of}
 use Rattle.ep_pad_state.specs.declared.birth.Birth.{Birth as Kept}
-use Rattle.ep_pad_state.specs.Held.{IsBirth}
+use Rattle.ep_pad_state.specs.Held.{HasRevs}
 use Rattle.ep_pad_state.proofs.Pads.{leads-on}
 use Rattle.ep_pad_state.proofs.Keeping.{head-doc-of}
 use Rattle.ep_pad_state.proofs.Outcomes.{accept-taken}
@@ -77,13 +77,13 @@ leads vs at h r e s m d = record {
 pub asked-none : (p : PadState) (l : Seat) (h : Head) (name : Text) (r : ℕ) → IsHeadOf h p → h.rev < r → l.author ≡ name → l.read_only ≡ false → IsAsked h None name p l r
 asked-none p l h name r o lt a w = let e = o.rev in record { head = o; base = omega (arith, e, lt); author = sym a; writes = w }
 
-pub asked-some : (k : Kept) (p : PadState) (l : Seat) (h : Head) (at : Base) (name : Text) (r : ℕ) → IsBirth k (newest p) → IsHeadOf h p → r ≤ h.rev
+pub asked-some : (k : Kept) (p : PadState) (l : Seat) (h : Head) (at : Base) (name : Text) (r : ℕ) → HasRevs k (newest p) → IsHeadOf h p → r ≤ h.rev
     → at.doc.now ≡ doc_of k.revs.revs r → at.since.now ≡ drop (suc r) k.revs.revs → l.author ≡ name → l.read_only ≡ false → IsAsked h (Some at) name p l r
 asked-some k p l h at name r b o le d s a w =
     let e = o.rev in
     record {
       head = o;
-      base = (omega (arith, e, le), d ∙ ap (λ vs. doc_of vs r) b.revs, s ∙ ap (drop (suc r)) b.revs);
+      base = (omega (arith, e, le), d ∙ ap (λ vs. doc_of vs r) b, s ∙ ap (drop (suc r)) b);
       author = sym a;
       writes = w;
     }
@@ -92,14 +92,14 @@ asked-some k p l h at name r b o le d s a w =
 
 -- it is taken of some edit of the head's document, whatever the pad
 pub own-taken : (k : Kept) (limit : ℕ) (name : Text) (base : ℕ) (c : Change) (t : Taken) → 1 ≤ length k.revs.revs
-    → ((p : PadState) (l : Seat) → IsBirth k (newest p) → p.limits.units ≡ limit → l.author ≡ name → l.read_only ≡ false → t ≡ taken_of (at_head p base c.edit) (head_doc (newest p)))
+    → ((p : PadState) (l : Seat) → HasRevs k (newest p) → p.limits.units ≡ limit → l.author ≡ name → l.read_only ≡ false → t ≡ taken_of (at_head p base c.edit) (head_doc (newest p)))
     → (e : Edit) × (t ≡ taken_of e (last_doc k.revs.revs))
 own-taken k limit name base c t some of = go k.revs.revs refl some
   where
     go : (vs : List Rev) → k.revs.revs ≡ vs → 1 ≤ length vs → (e : Edit) × (t ≡ taken_of e (last_doc k.revs.revs))
     go [] r n = absurd (omega (arith, n))
     go (v ∷ vs) r n =
-        let b : Birth = record { first = v; later = vs; nops = k.nops.items } in
+        let b : Birth = record { first = v; later = vs; nops = [] } in
         let p : PadState = record {
           limits = record { live = 0; logins = 0; units = limit; journal = 0; pads = 0 };
           epoch = 0;
@@ -109,8 +109,7 @@ own-taken k limit name base c t some of = go k.revs.revs refl some
           public = false;
         } in
         let l : Seat = record { author = name; read_only = false; end = None } in
-        let is : IsBirth k b = record { revs = r; nops = refl } in
-        (at_head p base c.edit, of p l is refl refl refl ∙ ap (taken_of (at_head p base c.edit)) (sym (head-doc-of k b is)))
+        (at_head p base c.edit, of p l r refl refl refl ∙ ap (taken_of (at_head p base c.edit)) (sym (head-doc-of k b r)))
 
 pub step-of-taken : (e : Edit) (doc : Doc) (s : Step) → taken.Step s ≡ taken_of e doc → s ≡ step_of e doc
 step-of-taken e doc s h = go (is_identity e) h

@@ -8,11 +8,16 @@ use Rattle.ep_pad_state.specs.declared.birth.Birth.{Birth as Kept}
 use Rattle.ep_pad_state.specs.declared.pad.Last.{Last}
 use Rattle.ep_pad_state.specs.declared.pad.Last.TheVariants.{There, Gone}
 use Rattle.ep_pad_state.specs.declared.pad.Pad.{Pad}
+use Rattle.ep_pad_state.specs.Nops.{StandFor}
 
--- a birth's revisions, revision 0 first, and its edits that became nothing
+-- a birth's revisions, revision 0 first
+abbrev pub HasRevs : Kept → Birth → Type 0
+HasRevs k b = k.revs.revs ≡ b.first ∷ b.later
+
+-- its revisions, and its edits that became nothing
 pub record IsBirth (k : Kept) (b : Birth) : Type 0 where
-  pub revs : k.revs.revs ≡ b.first ∷ b.later
-  pub nops : k.nops.items ≡ b.nops
+  pub revs : HasRevs k b
+  pub nops : StandFor k.nops b.nops
 
 -- the last birth is there; or it is gone, and its head was this
 abbrev pub IsLast : Last → PadState → Type 0

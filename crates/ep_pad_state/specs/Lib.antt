@@ -1,3 +1,4 @@
+pub mod Nops
 pub mod Held
 pub mod Making
 pub mod Answering

@@ -1,6 +1,7 @@
 -- What a change that was made ready makes of a pad.
-use Rattle.std.specs.Prelude.{◌≡◌, ◌+◌, ◌<◌, ◌≤◌, ◌^◌, true, false, List, [], ◌∷◌, ◌++◌, length, vec_len, vec_capacity}
+use Rattle.std.specs.Prelude.{◌≡◌, ◌+◌, ◌<◌, ◌≤◌, ◌^◌, true, false, List, [], ◌∷◌, ◌++◌, length}
 use Rattle.ep_history.specs.declared.rev.Rev.{Rev}
+use Rattle.ep_history.specs.declared.nop.Nop.{Nop}
 use Rattle.ep_history.specs.History.{Birth, lacks_newline, made}
 use Rattle.ep_history.specs.Pad.{PadState, no_birth, with_revs, with_nops, with_session, delete, set_public, reopened}
 use Rattle.ep_history.specs.Records.{IsSoundPad}
@@ -14,6 +15,7 @@ use Rattle.ep_pad_state.specs.declared.change.PadChange.TheVariants as made_by
 use Rattle.ep_pad_state.specs.declared.pad.Last.{Last}
 use Rattle.ep_pad_state.specs.declared.pad.Last.TheVariants.{There, Gone}
 use Rattle.ep_pad_state.specs.declared.pad.Pad.{Pad}
+use Rattle.ep_pad_state.specs.Nops.{HasRoom, StandFor}
 use Rattle.ep_pad_state.specs.Held.{IsPad}
 
 -- a birth of these revisions, revision 0 first
@@ -48,15 +50,15 @@ abbrev pub TakesRevs : Last → Revised → Type 0
 TakesRevs (There k) r = CanGrow k r
 TakesRevs (Gone h) r = ⊥
 
--- the same for an edit that became nothing
-abbrev pub TakesNop : Last → Type 0
-TakesNop (There k) = vec_len k.nops < vec_capacity k.nops
-TakesNop (Gone h) = ⊥
+-- the same for an edit that became nothing: the room is its session's
+abbrev pub TakesNop : Last → Nop → Type 0
+TakesNop (There k) x = HasRoom x.session k.nops
+TakesNop (Gone h) x = ⊥
 
 -- births are counted in 64 bits, and a new one has no edits that became nothing
 pub record TakesBirth (pad : Pad) (k : Kept) : Type 0 where
   pub count : pad.births + 1 < 2 ^ 64
-  pub nops : k.nops.items ≡ []
+  pub nops : StandFor k.nops []
 
 -- somebody may enter without memory
 pub record TakesSession (pad : Pad) : Type 0 where
@@ -65,7 +67,7 @@ pub record TakesSession (pad : Pad) : Type 0 where
 
 abbrev pub Takes : Pad → PadChange → Type 0
 Takes pad (made_by.Revisions r) = TakesRevs pad.last r
-Takes pad (made_by.Nop x) = TakesNop pad.last
+Takes pad (made_by.Nop x) = TakesNop pad.last x
 Takes pad (made_by.Birth k) = TakesBirth pad k
 Takes pad (made_by.FirstLogin k author read_only) = TakesBirth pad k × TakesSession pad
 Takes pad made_by.Deletion = Unit {0}

@@ -1,13 +1,14 @@
 //! The last birth of a pad.
 
-ghost use Rattle.std.specs.Prelude.{◌≡◌, ◌≤◌, ◌<◌, ◌++◌, ◌∷◌, [], false, true, length, vec_len, vec_capacity, IfOk, OnOk};
-ghost use Rattle.std.specs.Prelude.{drop, map, nat_le};
-ghost use Rattle.std.specs.List.{filter, take_while};
-ghost use Rattle.ep_history.specs.History.{is_session, lacks_newline};
+ghost use Rattle.std.specs.Prelude.{◌≡◌, ◌≤◌, ◌<◌, ◌++◌, ◌∷◌, [], false, true, length, vec_len, IfOk, OnOk};
+ghost use Rattle.std.specs.Prelude.{drop, nat_le};
+ghost use Rattle.std.specs.List.{take_while};
+ghost use Rattle.ep_history.specs.History.{lacks_newline};
 ghost use Rattle.ep_revs.specs.Revisions.{last_doc};
 ghost use Rattle.ep_step.specs.Revised.{revs_of, AreNewRevs};
 
 use crate::guesses::Guesses;
+use crate::nops::Nops;
 use ep_apply::Doc;
 use ep_cs::Change;
 use ep_history::{Nop, PadBad, Rev};
@@ -16,13 +17,13 @@ use ep_step::{
     Base, Head, NewRev, Revised, Step, Taken, first_step, first_steps_are_first_revisions,
 };
 use ep_units::{NoMemory, Session, Units};
-use std::alloc::{AllocError, Global};
+use std::alloc::Global;
 
 /// The revisions of a birth, of which there is at least one, and its edits that became nothing.
 #[derive(Drop)]
 pub struct Birth {
     pub(crate) revs: Revs,
-    pub(crate) nops: Vec<Nop>,
+    pub(crate) nops: Nops,
     guesses: Guesses,
     ghost some: { 1 ≤ length revs.revs },
     ghost ends: { lacks_newline (last_doc revs.revs) ≡ false },
@@ -42,32 +43,6 @@ fn push_all(revs: &mut Revs, revised: Revised)
     }
 }
 
-/// Whether a session made an edit that became nothing.
-fn is_of(nop: &Nop, session: Session) -> bool
-    ensures { result ≡ is_session nop.now.session session }
-{
-    nop.session.epoch == session.epoch && nop.session.count == session.count
-}
-
-/// The heads of a session's edits that became nothing, without the first ones, up to a revision.
-fn later_heads(
-    alloc: Global,
-    nops: &[Nop],
-    session: Session,
-    told: usize,
-    to: u64,
-) -> Result<Vec<u64>, AllocError>
-    ensures { IfOk result (λ heads. heads.items
-        ≡ take_while (λ h. nat_le h to) (drop told (map (λ x. x.rev) (filter (λ x. is_session x.session session) nops.now)))) }
-{
-    nops.iter()
-        .filter(|nop| is_of(nop, session))
-        .map(|nop| nop.rev)
-        .skip(told)
-        .take_while(|head| *head <= to)
-        .collect(alloc)
-}
-
 impl Birth {
     ghost use Rattle.std.specs.Prelude.{ℕ, ◌+◌, ◌^◌};
     ghost use Rattle.ep_units.specs.Text.{is_well_formed};
@@ -84,7 +59,9 @@ impl Birth {
     ghost use Rattle.ep_step.specs.Taking.{IsHeadOf, taken_of, change_of};
     ghost use Rattle.ep_step.specs.Answers.{Refuses};
     ghost use Rattle.ep_step.specs.Step.{step_of};
-    ghost use Rattle.ep_pad_state.specs.Held.{IsBirth};
+    ghost use Rattle.ep_units.specs.declared.session.Session.{Session};
+    ghost use Rattle.ep_pad_state.specs.Nops.{heads_of, heads_in, HasRoom, SameHeads, StandFor};
+    ghost use Rattle.ep_pad_state.specs.Held.{HasRevs, IsBirth};
     ghost use Rattle.ep_pad_state.specs.Making.{CanGrow};
 
     /// The birth that a text makes, cleaned, where it has at most so many units. Of 2^32 units or more memory is said to be
@@ -92,7 +69,7 @@ impl Birth {
     pub(crate) fn first(alloc: Global, text: &Units, limit: u64, now: u64) -> Result<Birth, PadBad>
         requires { is_well_formed text.now ≡ true }
         ensures revs { IfOk result (λ b. b.revs.revs ≡ first_rev now text.now ∷ []) }
-        ensures nops { IfOk result (λ b. b.nops.items ≡ []) }
+        ensures nops { IfOk result (λ b. StandFor b.nops []) }
         ensures refused { (p : PadState) → limit ≡ p.limits.units → p.present ≡ false → Refuses (create_fault p text.now) result }
     {
         first_steps_are_first_revisions();
@@ -102,7 +79,7 @@ impl Birth {
         push_all(&mut revs, step.into_revs_of_nobody(alloc, now));
         Ok(Birth {
             revs,
-            nops: Vec::new(alloc),
+            nops: Nops::new(alloc),
             guesses: Guesses::none(),
         })
     }
@@ -136,7 +113,7 @@ impl Birth {
 
     /// Its head, where a document may have so many units.
     pub(crate) fn head(&self, limit: u64) -> Head<'_>
-        ensures head { (p : PadState) → IsBirth self.now (newest p) → p.limits.units ≡ limit → IsHeadOf result p }
+        ensures head { (p : PadState) → HasRevs self.now (newest p) → p.limits.units ≡ limit → IsHeadOf result p }
         ensures rev { length self.now.revs.revs ≡ result.rev + 1 }
         ensures doc { result.doc.now ≡ last_doc self.now.revs.revs }
         ensures limit { result.limit ≡ limit }
@@ -178,7 +155,7 @@ impl Birth {
         ensures { (b : ABirth) → IsBirth self.now b
             → IfOk result (λ heads. heads.items ≡ take_while (λ h. nat_le h to) (drop told (nop_heads session b))) }
     {
-        Ok(later_heads(alloc, &self.nops, session, told as usize, to)?)
+        Ok(self.nops.heads_to(alloc, session, told as usize, to)?)
     }
 
     /// Puts maps of the session's last revision in the place of equal ones, so that both keep one.
@@ -200,9 +177,9 @@ impl Birth {
         author: &Units,
         change: Change,
     ) -> Result<Taken, PadBad>
-        ensures taken { (p : PadState) (l : Seat) → IsBirth self.now (newest p) → p.limits.units ≡ limit → l.author ≡ author.now → l.read_only ≡ false
+        ensures taken { (p : PadState) (l : Seat) → HasRevs self.now (newest p) → p.limits.units ≡ limit → l.author ≡ author.now → l.read_only ≡ false
             → IfOk result (λ taken. taken ≡ taken_of (at_head p base change.edit) (head_doc (newest p))) }
-        ensures refused { (p : PadState) (l : Seat) → IsBirth self.now (newest p) → p.limits.units ≡ limit → l.author ≡ author.now → l.read_only ≡ false
+        ensures refused { (p : PadState) (l : Seat) → HasRevs self.now (newest p) → p.limits.units ≡ limit → l.author ≡ author.now → l.read_only ≡ false
             → Refuses (first_fault (edit_faults p l base change)) result }
         ensures fits { IfOk result (λ taken. Fits (change_of taken) (last_doc self.now.revs.revs)) }
     {
@@ -223,20 +200,27 @@ impl Birth {
         head.take(alloc, Some(at), author, change)
     }
 
-    /// Makes room for a step's revisions, whose numbers have 64 bits, and for one edit that becomes nothing.
+    /// Makes room for a step's revisions, whose numbers have 64 bits.
     pub(crate) fn reserve(&mut self) -> Result<(), NoMemory>
         ensures revs { self.new.revs.revs ≡ self.old.revs.revs }
-        ensures nops { self.new.nops.items ≡ self.old.nops.items }
+        ensures nops { self.new.nops ≡ self.old.nops }
         ensures revs_room { OnOk result (2 ≤ self.new.revs.room) }
         ensures numbers { OnOk result (length self.new.revs.revs < 2 ^ 64) }
-        ensures nops_room { OnOk result (vec_len self.new.nops < vec_capacity self.new.nops) }
     {
         if self.last() == u64::MAX {
             return Err(NoMemory);
         }
         self.revs.reserve_two()?;
-        self.nops.reserve(1)?;
         Ok(())
+    }
+
+    /// Makes room for one edit of a session that becomes nothing.
+    pub(crate) fn reserve_nop(&mut self, alloc: Global, session: Session) -> Result<(), NoMemory>
+        ensures revs { self.new.revs.revs ≡ self.old.revs.revs }
+        ensures nops { SameHeads self.old.nops self.new.nops }
+        ensures room { OnOk result (HasRoom session self.new.nops) }
+    {
+        Ok(self.nops.reserve(alloc, session)?)
     }
 
     /// The revisions of a step of its head, where there is room for them.
@@ -263,7 +247,7 @@ impl Birth {
     pub(crate) fn lengthen(&mut self, revised: Revised)
         requires { CanGrow self.old revised }
         ensures revs { self.new.revs.revs ≡ self.old.revs.revs ++ revs_of revised }
-        ensures nops { self.new.nops.items ≡ self.old.nops.items }
+        ensures nops { self.new.nops ≡ self.old.nops }
     {
         let next = self.last().saturating_add(1);
         self.guesses.put(revised.edit.rev.session, next);
@@ -272,9 +256,9 @@ impl Birth {
 
     /// An edit that became nothing. It takes no memory.
     pub(crate) fn note(&mut self, nop: Nop)
-        requires { vec_len self.old.nops < vec_capacity self.old.nops }
+        requires { HasRoom nop.session self.old.nops }
         ensures revs { self.new.revs.revs ≡ self.old.revs.revs }
-        ensures nops { self.new.nops.items ≡ self.old.nops.items ++ nop ∷ [] }
+        ensures nops { (s : Session) → heads_of s self.new.nops ≡ heads_of s self.old.nops ++ heads_in s (nop ∷ []) }
     {
         self.nops.push_reserved(nop);
     }

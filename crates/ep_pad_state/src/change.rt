@@ -79,7 +79,7 @@ impl Pad {
     }
 
     fn note(&mut self, nop: Nop)
-        requires { TakesNop self.old.last }
+        requires { TakesNop self.old.last nop }
         ensures { (p : PadState) → IsPad self.old p → Keeps self.new (with_nops p (nop ∷ [])) }
     {
         if let Last::There(birth) = &mut self.last {

@@ -10,6 +10,7 @@ mod birth;
 mod change;
 mod entering;
 mod guesses;
+mod nops;
 mod pad;
 mod readings;
 mod recording;

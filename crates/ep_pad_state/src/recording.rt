@@ -87,15 +87,18 @@ impl Pad {
         let last = birth.last();
         let answer = taken.committed(alloc, last)?;
         match taken {
-            Taken::Nop(_change) => Ok(Ready {
-                record: Record::Nop { session, time: now },
-                answer,
-                change: PadChange::Nop(Nop {
-                    session,
-                    time: now,
-                    rev: last,
-                }),
-            }),
+            Taken::Nop(_change) => {
+                birth.reserve_nop(alloc, session)?;
+                Ok(Ready {
+                    record: Record::Nop { session, time: now },
+                    answer,
+                    change: PadChange::Nop(Nop {
+                        session,
+                        time: now,
+                        rev: last,
+                    }),
+                })
+            }
             Taken::Step(step) => {
                 let kept = step_record(alloc, &step, author, session, now)?;
                 let author = author.copy(alloc)?;

@@ -53,7 +53,7 @@ impl Pad {
             }
             Record::Delete { time: _time } => Ok(self.where_there(PadChange::Deletion)),
             Record::Public { on } => Ok(self.where_there(PadChange::Public(on))),
-            Record::Nop { session, time } => self.nop(session, time),
+            Record::Nop { session, time } => self.nop(alloc, session, time),
         }
     }
 
@@ -128,14 +128,19 @@ impl Pad {
         }
     }
 
-    fn nop(&mut self, session: Session, time: u64) -> Result<Option<PadChange>, NoMemory>
+    fn nop(
+        &mut self,
+        alloc: Global,
+        session: Session,
+        time: u64,
+    ) -> Result<Option<PadChange>, NoMemory>
         ensures stays { StandsStill self.old self.new }
         ensures next { IfOk result (IsNextChange self.new (record_of.Nop session time)) }
     {
         let Last::There(birth) = &mut self.last else {
             return Ok(None);
         };
-        birth.reserve()?;
+        birth.reserve_nop(alloc, session)?;
         let rev = birth.last();
         Ok(Some(PadChange::Nop(Nop { session, time, rev })))
     }

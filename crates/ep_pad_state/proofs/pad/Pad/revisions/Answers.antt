@@ -28,7 +28,7 @@ returns-in-Some-clause-next c =
           let b = birth-of _ c.reserve.new.self p h.keeps refl in
           let t = present-of _ c.reserve.new.self p h.keeps refl in
           let x = c.in_ok-step.ensures.next p c.args.session c.args.time c.args.author (c.doc.ensures.document (newest p) b) t in
-          let doc = head-doc-of c.reserve.new.self (newest p) b in (
+          let doc = head-doc-of c.reserve.new.self (newest p) b.revs in (
             x.0 (subst (λ (o : Option Step). IsSome o) (sym c.in-Some.is) refl),
             ap (with_revs p) (c.revisions-revised.ensures.revs ∙ (λ i. step_revs (record { author = c.args.author; session = c.args.session; time = c.args.time }) (edit i) (doc i))),
           ),

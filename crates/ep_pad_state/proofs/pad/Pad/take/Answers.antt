@@ -1,4 +1,4 @@
-use Rattle.std.proofs.Common.{false, None, inl, inr, refl, sym, ap, ◌∙◌, rules}
+use Rattle.std.proofs.Common.{false, None, length, inl, inr, refl, sym, ap, ◌∙◌, rules}
 use Rattle.std.proofs.lemmas.Result.{err_from_is_err_and}
 use Rattle.ep_history.specs.Accept.{at_head}
 use Rattle.ep_history.specs.History.{head_doc, step_revs}
@@ -9,7 +9,7 @@ use Rattle.ep_revs.specs.Revisions.{last_doc}
 use Rattle.ep_step.specs.declared.taking.Taken.{Taken}
 use Rattle.ep_step.specs.declared.step.Step.{Step}
 use Rattle.ep_step.specs.Revised.{revs_of}
-use Rattle.ep_pad_state.proofs.Keeping.{absent-of, birth-of, head-doc-of, same-birth}
+use Rattle.ep_pad_state.proofs.Keeping.{absent-of, birth-of, head-doc-of, same-birth, same-pad}
 use Rattle.ep_pad_state.proofs.Outcomes.{accept-refused, live-seat, seat-refusal}
 use Rattle.ep_pad_state.proofs.Pads.{live-there}
 use Rattle.ep_pad_state.proofs.Readying.{own-step, ready-nop, ready-revs}
@@ -24,14 +24,14 @@ returns-in-Gone-clause-answer c = λ p h.
 
 pub returns-in_err-taken-clause-answer : goal.returns-in_err-taken-clause-answer
 returns-in_err-taken-clause-answer c = λ p h.
-    let keeps = same-birth c.args.self.now p c.in-There.birth c.reserve.new.self h.keeps c.in-There.is c.in_ok-reserve.ensures.revs c.in_ok-reserve.ensures.nops in
-    let is = birth-of _ c.reserve.new.self p keeps refl in
+    let reserved = same-pad c.args.self.now p c.in-There.birth c.reserve.new.self h c.in-There.is c.in_ok-reserve.ensures.revs c.in_ok-reserve.ensures.nops in
+    let is = birth-of _ c.reserve.new.self p reserved.keeps refl in
     let l : Seat = record { author = c.in_ok-author.author.now; read_only = false; end = None } in
     let f = sym (c.in_ok-author.ensures.writes p h.keeps.seats) in
     let s = seat-refusal p c.args.session c.args.base c.args.change l f refl in
-    let why = refused-by Taken _ _ (c.in_err-taken.ensures.refused p l is (ap (λ (l : Limits). l.units) h.keeps.limits) refl refl) in
+    let why = refused-by Taken _ _ (c.in_err-taken.ensures.refused p l is.revs (ap (λ (l : Limits). l.units) h.keeps.limits) refl refl) in
     let r = err_from_is_err_and c.from_residual-in_err-taken.result c.from_residual-in_err-taken.ensures.1 in (
-      record { keeps = keeps; sound = h.sound },
+      reserved,
       rw (r.1, r.2) (elim why [
         | inl e ↦ inl (accept-refused p c.args.session c.args.base c.args.change c.args.now _ (s ∙ e))
         | inr e ↦ inr e
@@ -44,40 +44,40 @@ revisions-revised-requires-clause-step c =
     let doc = last_doc c.reserve.new.self.revs.revs in
     own-step c.in-Step.step o.0 doc (step-of-taken o.0 doc c.in-Step.step (sym c.in-Step.is ∙ o.1))
 
-pub returns-in-Nop-clause-answer : goal.returns-in-Nop-clause-answer
-returns-in-Nop-clause-answer c = λ p h.
-    let keeps = same-birth c.args.self.now p c.in-There.birth c.reserve.new.self h.keeps c.in-There.is c.in_ok-reserve.ensures.revs c.in_ok-reserve.ensures.nops in
-    let is = birth-of _ c.reserve.new.self p keeps refl in
+pub returns-in_ok-reserve_nop-in-Nop-clause-answer : goal.returns-in_ok-reserve_nop-in-Nop-clause-answer
+returns-in_ok-reserve_nop-in-Nop-clause-answer c = λ p h.
+    let reserved = same-pad c.args.self.now p c.in-There.birth c.reserve.new.self h c.in-There.is c.in_ok-reserve.ensures.revs c.in_ok-reserve.ensures.nops in
+    let is = birth-of _ c.reserve.new.self p reserved.keeps refl in
     let l : Seat = record { author = c.in_ok-author.author.now; read_only = false; end = None } in
     let f = sym (c.in_ok-author.ensures.writes p h.keeps.seats) in
     let s = seat-refusal p c.args.session c.args.base c.args.change l f refl in
     let units = ap (λ (l : Limits). l.units) h.keeps.limits in
-    let none = not-refused Taken _ c.in_ok-taken.taken (c.in_ok-taken.ensures.refused p l is units refl refl) in
-    let t = c.in_ok-taken.ensures.taken p l is units refl refl in
+    let none = not-refused Taken _ c.in_ok-taken.taken (c.in_ok-taken.ensures.refused p l is.revs units refl refl) in
+    let t = c.in_ok-taken.ensures.taken p l is.revs units refl refl in
     let n = c.last-last.ensures.number (newest p) is in (
-      record { keeps = keeps; sound = h.sound },
+      record { keeps = same-birth _ p _ c.reserve_nop.new.self reserved.keeps refl c.in_ok-reserve_nop-in-Nop.ensures.revs c.in_ok-reserve_nop-in-Nop.ensures.nops; sound = h.sound },
       accept-nop p c.args.session c.args.base c.args.change c.args.now l _ c.last-last.result _ f (s ∙ none) (sym c.in-Nop.is ∙ t) n (c.in_ok-answer.ensures p (at_head p c.args.base c.args.change.edit) n t),
     )
 
-pub returns-in-Nop-clause-ready : goal.returns-in-Nop-clause-ready
-returns-in-Nop-clause-ready c = ready-nop _ c.reserve.new.self _ refl c.in_ok-reserve.ensures.nops_room c.last-last.ensures.count
+pub returns-in_ok-reserve_nop-in-Nop-clause-ready : goal.returns-in_ok-reserve_nop-in-Nop-clause-ready
+returns-in_ok-reserve_nop-in-Nop-clause-ready c = ready-nop _ c.reserve_nop.new.self _ refl c.in_ok-reserve_nop-in-Nop.ensures.room (ap length c.in_ok-reserve_nop-in-Nop.ensures.revs ∙ c.last-last.ensures.count)
 
 pub returns-in_ok-author-in-Step-clause-answer : goal.returns-in_ok-author-in-Step-clause-answer
 returns-in_ok-author-in-Step-clause-answer c = λ p h.
-    let keeps = same-birth c.args.self.now p c.in-There.birth c.reserve.new.self h.keeps c.in-There.is c.in_ok-reserve.ensures.revs c.in_ok-reserve.ensures.nops in
-    let is = birth-of _ c.reserve.new.self p keeps refl in
+    let reserved = same-pad c.args.self.now p c.in-There.birth c.reserve.new.self h c.in-There.is c.in_ok-reserve.ensures.revs c.in_ok-reserve.ensures.nops in
+    let is = birth-of _ c.reserve.new.self p reserved.keeps refl in
     let l : Seat = record { author = c.in_ok-author.author.now; read_only = false; end = None } in
     let f = sym (c.in_ok-author.ensures.writes p h.keeps.seats) in
     let s = seat-refusal p c.args.session c.args.base c.args.change l f refl in
     let units = ap (λ (l : Limits). l.units) h.keeps.limits in
-    let none = not-refused Taken _ c.in_ok-taken.taken (c.in_ok-taken.ensures.refused p l is units refl refl) in
-    let t = c.in_ok-taken.ensures.taken p l is units refl refl in
+    let none = not-refused Taken _ c.in_ok-taken.taken (c.in_ok-taken.ensures.refused p l is.revs units refl refl) in
+    let t = c.in_ok-taken.ensures.taken p l is.revs units refl refl in
     let n = c.last-last.ensures.number (newest p) is in
     let e = at_head p c.args.base c.args.change.edit in
     let own = step-of-taken e (head_doc (newest p)) c.in-Step.step (sym c.in-Step.is ∙ t) in
     let edit = ap (λ (x : Step). x.edit.change.edit) own in
-    let doc = head-doc-of c.reserve.new.self (newest p) is in (
-      record { keeps = keeps; sound = h.sound },
+    let doc = head-doc-of c.reserve.new.self (newest p) is.revs in (
+      reserved,
       accept-step p c.args.session c.args.base c.args.change c.args.now l c.in-Step.step c.in_ok-kept-in-Step.kept (revs_of c.revisions-revised.result) _ f (s ∙ none)
           (sym c.in-Step.is ∙ t) (c.in_ok-kept-in-Step.ensures p e own)
           (c.revisions-revised.ensures.revs
@@ -88,3 +88,17 @@ returns-in_ok-author-in-Step-clause-answer c = λ p h.
 pub returns-in_ok-author-in-Step-clause-ready : goal.returns-in_ok-author-in-Step-clause-ready
 returns-in_ok-author-in-Step-clause-ready c =
     ready-revs _ c.reserve.new.self _ _ c.in-Step.step.edit.change refl c.revisions-revised.ensures.grows c.revisions-revised.ensures.revs (search rules) c.revisions-revised.ensures.edit
+
+pub returns-in_err-kept-in-Step-clause-answer : goal.returns-in_err-kept-in-Step-clause-answer
+returns-in_err-kept-in-Step-clause-answer c = λ p h.
+    let r = err_from_is_err_and c.from_residual-in_err-kept-in-Step.result c.from_residual-in_err-kept-in-Step.ensures.1 in (
+      same-pad c.args.self.now p c.in-There.birth c.reserve.new.self h c.in-There.is c.in_ok-reserve.ensures.revs c.in_ok-reserve.ensures.nops,
+      rw (r.1, r.2) (inr refl),
+    )
+
+pub returns-in_err-author-in-Step-clause-answer : goal.returns-in_err-author-in-Step-clause-answer
+returns-in_err-author-in-Step-clause-answer c = λ p h.
+    let r = err_from_is_err_and c.from_residual-in_err-author-in-Step.result c.from_residual-in_err-author-in-Step.ensures.1 in (
+      same-pad c.args.self.now p c.in-There.birth c.reserve.new.self h c.in-There.is c.in_ok-reserve.ensures.revs c.in_ok-reserve.ensures.nops,
+      rw (r.1, r.2) (inr refl),
+    )
