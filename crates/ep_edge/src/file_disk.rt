@@ -104,15 +104,9 @@ impl Disk for FileDisk {
 
     fn sync(&mut self) -> Result<(), Failed> {
         self.calls -= 1;
-        if self.is_unsure {
-            return Err(self.fault());
-        }
-        match self.file.sync_data() {
+        match self.sync_data() {
             Ok(()) => Ok(()),
-            Err(_) => {
-                self.is_unsure = true;
-                Err(self.fault())
-            }
+            Err(_) => Err(self.fault()),
         }
     }
 
@@ -124,7 +118,21 @@ impl Disk for FileDisk {
 }
 
 impl FileDisk {
+    ghost use Rattle.std.specs.Prelude.{false, true, OnErr, OnOk};
     ghost use Rattle.ep_outside.specs.Outside.{risen};
+
+    // A sync after one that failed would say nothing of what the system has dropped.
+    fn sync_data(&mut self) -> io::Result<()>
+        ensures ok { OnOk result ((self.old.is_unsure ≡ false) × (self.new ≡ self.old)) }
+        ensures err { OnErr result (self.new ≡ record self.old { is_unsure = true }) }
+    {
+        if self.is_unsure {
+            return Err(Error::from(ErrorKind::Other));
+        }
+        let synced = self.file.sync_data();
+        self.is_unsure = synced.is_err();
+        synced
+    }
 
     // Counts a fault.
     fn fault(&mut self) -> Failed

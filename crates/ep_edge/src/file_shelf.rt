@@ -85,17 +85,20 @@ fn bad(error: io::Error) -> ShelfBad {
     }
 }
 
+fn copied(alloc: Global, path: &str) -> Result<String, NoMemory> {
+    Ok(String::from_str(alloc, path)?)
+}
+
+// The path of an entry of a folder.
 fn path_in(alloc: Global, folder: &str, name: &str) -> Result<String, NoMemory> {
-    let mut path = String::from_str(alloc, folder)?;
-    path.push_str("/")?;
-    path.push_str(name)?;
-    Ok(path)
+    Ok(format!(in alloc; "{folder}/{name}")?)
 }
 
 impl Folder {
     // Opens the folder, and takes its lock.
     fn open<R: Files<File = File> + AllocGlobal>(rt: &R, path: &str) -> Result<Folder, ShelfBad> {
         let alloc = rt.alloc();
+        let entries = File::open(rt, path).map_err(bad)?;
         let lock_path = path_in(alloc, path, LOCK)?;
         let lock = OpenOptions::new()
             .write(true)
@@ -107,8 +110,8 @@ impl Folder {
             return Err(ShelfBad::Failed);
         }
         Ok(Folder {
-            path: path_in(alloc, path, "")?,
-            entries: File::open(rt, path).map_err(bad)?,
+            path: copied(alloc, path)?,
+            entries,
             lock,
             is_unsure: true,
         })

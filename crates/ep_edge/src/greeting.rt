@@ -6,8 +6,7 @@ use mio::net::TcpStream;
 use std::alloc::Global;
 use std::random::RandomSource;
 use std::time::Clock;
-use tungstenite::handshake::{HandshakeError, HandshakeRole};
-use tungstenite::handshake::{client, server};
+use tungstenite::handshake::{HandshakeError, HandshakeRole, client, server};
 use tungstenite::{Error, MaskKeys, NoCallback, RandomKeys, Role, WebSocket, WebSocketConfig};
 
 /// The most bytes of a message from a caller that the socket itself takes. It is twice what a reader takes, so that the
@@ -62,7 +61,7 @@ pub fn greet<R: RandomSource + Clock + Drop>(
 ) -> Result<Socket<R>, Error> {
     let config = config(CALLERS_BYTES);
     let begun = server::start(alloc, stream, NoCallback, Some(config)).handshake();
-    let greeted = finished(rt, watch, begun)?;
+    let greeted = finished(rt, Patience::begin(rt), watch, begun)?;
     // A server's handshake ends where it has written, so no byte behind it was read.
     Ok(WebSocket::from_raw_socket(
         alloc,
@@ -79,6 +78,7 @@ pub fn ask<R: RandomSource + Clock + Copy + Drop>(
     alloc: Global,
     stream: TcpStream,
     address: &str,
+    patience: Patience,
     watch: &mut Watch,
 ) -> Result<Socket<R>, Error> {
     let mut nonce = [0; 16];
@@ -87,20 +87,20 @@ pub fn ask<R: RandomSource + Clock + Copy + Drop>(
     let keys = Keys::Drawn(RandomKeys::new(*rt));
     let config = config(SERVERS_BYTES);
     let asked = client::start(alloc, nonce, keys, request, stream, Some(config))?;
-    let (socket, _response) = finished(rt, watch, asked.handshake())?;
+    let (socket, _response) = finished(rt, patience, watch, asked.handshake())?;
     Ok(socket)
 }
 
 // Goes on with a handshake until it is made, or refused, or has taken too long.
 fn finished<C: Clock, H: HandshakeRole + Drop>(
     clock: &C,
+    patience: Patience,
     watch: &mut Watch,
     begun: Result<H::Finished, HandshakeError<H>>,
 ) -> Result<H::Finished, Error>
 where
     H::Finished: Drop,
 {
-    let patience = Patience::begin(clock);
     let mut turn = begun;
     for _ in 0..MOST_TURNS {
         match turn {

@@ -25,4 +25,7 @@ pub use standard::{StdSink, StdSource};
 pub use sys_clock::SysClock;
 pub use sys_draws::SysDraws;
 pub use watch::WakeEar;
-pub use ws_link::{WsLink, connect};
+pub use ws_link::WsLink;
+
+#[cfg(test)]
+mod tests;

@@ -4,19 +4,19 @@ ghost use Rattle.std.specs.Prelude.{◌≡◌, ◌≤◌, IfOk, IsErrOf};
 ghost use Rattle.ep_outside.specs.Outside.{HasRisen};
 
 use crate::greeting::{ask, greet};
-use crate::patience::Patience;
+use crate::patience::{MOST_TURNS, Patience};
 use crate::talk::Talk;
 use crate::watch::{WakeEar, Watch};
 use ep_link::{Link, LinkBad, LinkGot};
 use ep_outside::Device;
 use mio::net::TcpStream;
 use std::alloc::Global;
-use std::io;
-use std::mem;
+use std::io::ErrorKind;
 use std::net::{Net, SocketAddr};
 use std::random::RandomSource;
 use std::sync::Wait;
 use std::time::Clock;
+use std::{io, mem};
 use tungstenite::Error;
 
 /// Where a link stands.
@@ -33,7 +33,8 @@ enum Line<R> {
 
 /// A WebSocket as a link.
 ///
-/// A link that was taken at a door makes its handshake at the first receive. One that failed fails from then on.
+/// A link that was taken at a door makes its handshake at the first receive. One that failed fails from then on; one
+/// for whose message there was no memory is closed, since what follows would be taken for that message.
 #[derive(Drop)]
 pub struct WsLink<R> {
     rt: R,
@@ -42,20 +43,39 @@ pub struct WsLink<R> {
     faults: u64,
 }
 
-impl<R: RandomSource + Clock + Copy + Drop> WsLink<R> {
-    /// A link to a peer that asked for it, over its stream, which does not block. Where the stream cannot be waited
-    /// for, each call fails.
-    pub fn taken<N: Net>(net: &N, rt: R, alloc: Global, stream: TcpStream) -> WsLink<R>
-        ensures { ⟦<WsLink<R> as Device>⟧.failures result ≡ 0 }
+impl<R: Net + RandomSource + Clock + Copy + Drop> WsLink<R> {
+    /// A link to a server at an address as `127.0.0.1:9001`, once the client's handshake is made, in ten seconds at
+    /// most. One that is refused is `Failed`.
+    pub fn connect(rt: R, alloc: Global, address: &str) -> Result<WsLink<R>, LinkBad>
+        ensures { IfOk result (λ l. ⟦<WsLink<R> as Device>⟧.failures l ≡ 0) }
     {
-        WsLink {
-            rt,
-            alloc,
-            line: line_over(net, alloc, stream),
-            faults: 0,
+        match called(&rt, alloc, address) {
+            Ok(talk) => Ok(WsLink {
+                rt,
+                alloc,
+                line: Line::Open(talk),
+                faults: 0,
+            }),
+            Err(Error::OutOfMemory) => Err(LinkBad::NoMemory),
+            Err(_) => Err(LinkBad::Failed),
         }
     }
 
+    /// A link to a peer that asked for it, over its stream, which does not block. Where the stream cannot be waited
+    /// for, each call fails.
+    pub fn taken(rt: R, alloc: Global, stream: TcpStream) -> WsLink<R>
+        ensures { ⟦<WsLink<R> as Device>⟧.failures result ≡ 0 }
+    {
+        WsLink {
+            line: line_over(&rt, alloc, stream),
+            rt,
+            alloc,
+            faults: 0,
+        }
+    }
+}
+
+impl<R: RandomSource + Clock + Copy + Drop> WsLink<R> {
     // Hears the peer's handshake, where that is still to be done. What is answered is a refusal.
     fn open(&mut self) -> Option<LinkGot>
         ensures { self.new.faults ≡ self.old.faults }
@@ -146,6 +166,10 @@ impl<R: RandomSource + Clock + Copy + Drop> Link for WsLink<R> {
                 self.fail();
                 LinkGot::Failed
             }
+            LinkGot::NoMemory => {
+                self.line = Line::Closed;
+                LinkGot::NoMemory
+            }
             got => got,
         }
     }
@@ -169,26 +193,7 @@ impl<R: RandomSource + Clock + Copy + Drop> Link for WsLink<R> {
     }
 }
 
-/// A link to a server at an address as `127.0.0.1:9001`, after the client's handshake.
-pub fn connect<R: Net + RandomSource + Clock + Copy + Drop>(
-    rt: &R,
-    alloc: Global,
-    address: &str,
-) -> Result<WsLink<R>, LinkBad>
-    ensures { IfOk result (λ l. ⟦<WsLink<R> as Device>⟧.failures l ≡ 0) }
-{
-    match called(rt, alloc, address) {
-        Ok(talk) => Ok(WsLink {
-            rt: *rt,
-            alloc,
-            line: Line::Open(talk),
-            faults: 0,
-        }),
-        Err(Error::OutOfMemory) => Err(LinkBad::NoMemory),
-        Err(_) => Err(LinkBad::Failed),
-    }
-}
-
+// A connection to an address, as `127.0.0.1:9001`, and the client's handshake over it, in ten seconds in all.
 fn called<R: Net + RandomSource + Clock + Copy + Drop>(
     rt: &R,
     alloc: Global,
@@ -197,23 +202,33 @@ fn called<R: Net + RandomSource + Clock + Copy + Drop>(
     let Ok(addr) = address.parse::<SocketAddr>() else {
         return Err(Error::Url);
     };
+    let patience = Patience::begin(rt);
     let mut stream = TcpStream::connect(rt, addr)?;
     let mut watch = Watch::over(rt, alloc, &mut stream)?;
-    reach(rt, &stream, &mut watch)?;
+    reach(rt, patience, &stream, &mut watch)?;
     let _ = stream.set_nodelay(true);
-    let socket = ask(rt, alloc, stream, address, &mut watch)?;
+    let socket = ask(rt, alloc, stream, address, patience, &mut watch)?;
     Ok(Talk { socket, watch })
 }
 
 // Waits until the connection is made.
-fn reach<C: Clock>(clock: &C, stream: &TcpStream, watch: &mut Watch) -> io::Result<()> {
-    let left = Patience::begin(clock).left_ms(clock).unwrap_or(0);
-    watch.wait_for_socket(left)?;
-    match stream.take_error()? {
-        Some(error) => Err(error),
-        None => {
-            stream.peer_addr()?;
-            Ok(())
+fn reach<C: Clock>(
+    clock: &C,
+    patience: Patience,
+    stream: &TcpStream,
+    watch: &mut Watch,
+) -> io::Result<()> {
+    for _ in 0..MOST_TURNS {
+        let Some(left) = patience.left_ms(clock) else {
+            return Err(io::Error::from(ErrorKind::TimedOut));
+        };
+        watch.wait_for_socket(left)?;
+        if let Some(error) = stream.take_error()? {
+            return Err(error);
+        }
+        if stream.peer_addr().is_ok() {
+            return Ok(());
         }
     }
+    Err(io::Error::from(ErrorKind::TimedOut))
 }
