@@ -3,4 +3,3 @@ pub mod Stops
 pub mod Played
 pub mod Ending
 pub mod Run
-pub mod Standard

@@ -8,11 +8,10 @@ mod reason;
 mod run;
 mod say;
 mod stage;
-mod standard;
 mod status;
 
+use ep_edge::{StdSink, StdSource};
 use run::run;
-use standard::{StdSink, StdSource};
 use std::io::ErrorKind;
 use std::process::ExitCode;
 use std::{env, io};

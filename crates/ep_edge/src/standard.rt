@@ -4,7 +4,7 @@
 ghost use Rattle.std.specs.Prelude.{◌≡◌, ◌≤◌, ◌<◌, None, length, OnOk, OnErr};
 ghost use Rattle.std.specs.Io.KnownBytes.{Appends};
 ghost use Rattle.ep_outside.specs.Outside.{HasRisen, Reads, TakesPart};
-ghost use Rattle.padd.specs.Standard.{ReadsOn};
+ghost use Rattle.ep_edge.specs.Standard.{ReadsOn};
 
 use ep_outside::{Device, Failed, Got, Sink, Source};
 use std::io::{Read, Write};

@@ -1,6 +1,6 @@
 use Rattle.std.proofs.Common.{None}
 use Rattle.ep_outside.proofs.Pieces.{started}
-use Rattle.padd.proofs.standard.StdSinkSink.write.Goals as goal
+use Rattle.ep_edge.proofs.standard.StdSinkSink.write.Goals as goal
 
 pub returns-in-Err-clause-err : goal.returns-in-Err-clause-err
 returns-in-Err-clause-err g c = (c.args.bytes.now, started None c.args.bytes.now)

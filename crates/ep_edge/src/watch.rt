@@ -1,0 +1,111 @@
+//! Waiting for a socket, or for a ring.
+
+use ep_link::Ear;
+use mio::net::TcpStream;
+use mio::{Events, Interest, Poll, Token, Waker};
+use std::alloc::Global;
+use std::io;
+use std::net::Net;
+use std::sync::Arc;
+use std::sync::atomic::{AtomicBool, Ordering};
+use std::time::Duration;
+
+const SOCKET: Token = Token(0);
+
+const BELL: Token = Token(1);
+
+/// Ends the wait of one watch.
+#[derive(Drop)]
+struct Bell {
+    waker: Waker,
+    // rung, and not heard yet
+    is_rung: AtomicBool,
+    // nobody waits any more
+    is_gone: AtomicBool,
+}
+
+/// Wakes the link whose ear it is.
+#[derive(Drop)]
+pub struct WakeEar {
+    bell: Arc<Bell, Global>,
+}
+
+impl Ear for WakeEar {
+    fn ring(&self) -> bool {
+        if self.bell.is_gone.load(Ordering::SeqCst) {
+            return false;
+        }
+        if self.bell.is_rung.swap(true, Ordering::SeqCst) {
+            return true;
+        }
+        self.bell.waker.wake().is_ok()
+    }
+}
+
+/// A watch's own hold of its bell. Once it is dropped the ears learn that nobody listens.
+struct Hearing {
+    bell: Arc<Bell, Global>,
+}
+
+impl Drop for Hearing {
+    fn drop(self) {
+        let Hearing { bell } = self;
+        bell.is_gone.store(true, Ordering::SeqCst);
+    }
+}
+
+/// Waits until a socket has something to read or room to write, or until its bell is rung.
+///
+/// What the socket reported once it reports again only after a read or a write answered that it would block: so try
+/// first, and then wait.
+#[derive(Drop)]
+pub struct Watch {
+    poll: Poll,
+    events: Events<Global>,
+    hearing: Hearing,
+}
+
+impl Watch {
+    pub fn over<N: Net>(net: &N, alloc: Global, stream: &mut TcpStream) -> io::Result<Watch> {
+        let poll = Poll::new(net)?;
+        let events = Events::with_capacity(alloc, 2)?;
+        let interests = Interest::READABLE | Interest::WRITABLE;
+        poll.registry().register(stream, SOCKET, interests)?;
+        let bell = Bell {
+            waker: Waker::new(poll.registry(), BELL)?,
+            is_rung: AtomicBool::new(false),
+            is_gone: AtomicBool::new(false),
+        };
+        Ok(Watch {
+            poll,
+            events,
+            hearing: Hearing {
+                bell: Arc::new(alloc, bell)?,
+            },
+        })
+    }
+
+    /// Waits for the socket, so many milliseconds at most. A ring may end the wait, and is still to be heard.
+    pub fn wait_for_socket(&mut self, ms: u64) -> io::Result<()> {
+        self.poll
+            .poll(&mut self.events, Some(Duration::from_millis(ms)))
+    }
+
+    /// Waits for the socket or a ring, so many milliseconds at most. A ring since the last such wait ends it at once.
+    pub fn wait_for_either(&mut self, ms: u64) -> io::Result<()> {
+        if self.hearing.bell.is_rung.swap(false, Ordering::SeqCst) {
+            return Ok(());
+        }
+        self.wait_for_socket(ms)?;
+        self.hearing.bell.is_rung.store(false, Ordering::SeqCst);
+        Ok(())
+    }
+
+    /// None for want of memory.
+    pub fn ear(&self) -> Option<WakeEar> {
+        match Arc::try_clone(&self.hearing.bell) {
+            Ok(bell) => Some(WakeEar { bell }),
+            Err(_) => None,
+        }
+    }
+}
