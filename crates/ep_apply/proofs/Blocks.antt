@@ -1,5 +1,5 @@
 -- Blocks one after another, and what is seen of their text.
-use Rattle.std.proofs.Common.{◌≡◌, ◌⊎◌, inl, inr, ℕ, suc, ◌+◌, ◌-◌, ◌≤◌, ◌<◌, ◌^◌, ◌==◌, Bool, true, false, cond, ◌&&◌, ◌||◌, List, [], ◌∷◌, ◌++◌, length, take, drop, get_or, refl, sym, ap, ◌∙◌, subst, arith, append_assoc, append-nil, length-append, length-drop, take-append-drop}
+use Rattle.std.proofs.Common.{◌≡◌, ◌⊎◌, inl, inr, ℕ, suc, ◌+◌, ◌-◌, ◌≤◌, ◌<◌, ◌^◌, ◌==◌, Bool, true, false, cond, ◌&&◌, ◌||◌, List, [], ◌∷◌, ◌++◌, length, take, drop, get_or, refl, sym, ap, ap₂, ◌∙◌, subst, arith, append_assoc, append-nil, length-append, length-drop, take-append-drop}
 use Rattle.std.proofs.lemmas.List.{map-append, take_more, length-map, take-append-le, drop-append-le, take-map, drop-map}
 use Rattle.std.proofs.lemmas.Bool.{cases_eq}
 use Rattle.std.proofs.lemmas.Bool.Decides.{nat_tests}
@@ -10,7 +10,8 @@ use Rattle.std.specs.declared.alloc.Global.{Global}
 use Rattle.ep_units.specs.Text.{Text, is_newline}
 use Rattle.ep_cs.specs.Doc.{Cell, text_of}
 use Rattle.ep_cs.specs.Lines.{count_lines, is_whole_lines}
-use Rattle.ep_apply.specs.Blocks.{all_cells, Sees}
+use Rattle.std.specs.List.{AllZip, AppendsClones}
+use Rattle.ep_apply.specs.Blocks.{all_cells, node_cells, its_own, Sees}
 use Rattle.ep_cs.specs.Fitting.{holds}
 use Rattle.ep_apply.specs.PairEnds.{ends_high}
 use Rattle.ep_apply.specs.declared.seen.Seen.{Seen}
@@ -21,35 +22,48 @@ length_text cs = length-map cs (λ (c : Cell). c.unit)
 pub text-append : (cs ds : List Cell) → text_of (cs ++ ds) ≡ text_of cs ++ text_of ds
 text-append cs ds = map-append (λ (c : Cell). c.unit) cs ds
 
-pub blocks-append : (bs cs : List (Arc (List Cell) Global)) → all_cells (bs ++ cs) ≡ all_cells bs ++ all_cells cs
-blocks-append [] cs = refl
-blocks-append (b ∷ bs) cs = ap (λ ds. arc_value b ++ ds) (blocks-append bs cs) ∙ sym (append_assoc (arc_value b) (all_cells bs) (all_cells cs))
+pub nodes-append : {A : Type 0} (f : A → List Cell) (ns ms : List (Arc A Global)) → node_cells f (ns ++ ms) ≡ node_cells f ns ++ node_cells f ms
+nodes-append f [] ms = refl
+nodes-append f (n ∷ ns) ms = ap (λ ds. f (arc_value n) ++ ds) (nodes-append f ns ms) ∙ sym (append_assoc (f (arc_value n)) (node_cells f ns) (node_cells f ms))
 
-pub one_block : (bs : List (Arc (List Cell) Global)) (b : Arc (List Cell) Global) → all_cells (bs ++ b ∷ []) ≡ all_cells bs ++ arc_value b
-one_block bs b = blocks-append bs (b ∷ []) ∙ ap (λ ds. all_cells bs ++ ds) (append-nil (arc_value b))
+pub one_node : {A : Type 0} (f : A → List Cell) (ns : List (Arc A Global)) (n : Arc A Global) → node_cells f (ns ++ n ∷ []) ≡ node_cells f ns ++ f (arc_value n)
+one_node f ns n = nodes-append f ns (n ∷ []) ∙ ap (λ ds. node_cells f ns ++ ds) (append-nil (f (arc_value n)))
 
-pub next_block : (bs : List (Arc (List Cell) Global)) (i : ℕ) (b : Arc (List Cell) Global) → i < length bs → b ≡ get_or bs i b → all_cells (take (i + 1) bs) ≡ all_cells (take i bs) ++ arc_value b
-next_block bs i b h e = ap all_cells (take_more bs i b h) ∙ one_block (take i bs) (get_or bs i b) ∙ ap (λ (x : Arc (List Cell) Global). all_cells (take i bs) ++ arc_value x) (sym e)
+pub next_node : {A : Type 0} (f : A → List Cell) (ns : List (Arc A Global)) (i : ℕ) (n : Arc A Global) → i < length ns → n ≡ get_or ns i n → node_cells f (take (i + 1) ns) ≡ node_cells f (take i ns) ++ f (arc_value n)
+next_node {A} f ns i n h e = ap (node_cells f) (take_more ns i n h) ∙ one_node f (take i ns) (get_or ns i n) ∙ ap (λ (x : Arc A Global). node_cells f (take i ns) ++ f (arc_value x)) (sym e)
 
--- a block beside those before it
-pub block_room : (bs : List (Arc (List Cell) Global)) (i : ℕ) (b : Arc (List Cell) Global) → i < length bs → b ≡ get_or bs i b → length (all_cells (take i bs)) + length (arc_value b) ≤ length (all_cells bs)
-block_room bs i b h e =
-    let parts = ap all_cells (sym (take-append-drop (i + 1) bs)) ∙ blocks-append (take (i + 1) bs) (drop (i + 1) bs) in
-    omega (arith, ap length parts, length-append (all_cells (take (i + 1) bs)) (all_cells (drop (i + 1) bs)), ap length (next_block bs i b h e), length-append (all_cells (take i bs)) (arc_value b))
+pub split_nodes : {A : Type 0} (f : A → List Cell) (k : ℕ) (ns : List (Arc A Global)) → node_cells f (take k ns) ++ node_cells f (drop k ns) ≡ node_cells f ns
+split_nodes f k ns = sym (nodes-append f (take k ns) (drop k ns)) ∙ ap (node_cells f) (take-append-drop k ns)
 
-pub some_blocks : (bs : List (Arc (List Cell) Global)) → 1 ≤ length (all_cells bs) → 1 ≤ length bs
-some_blocks [] h = h
-some_blocks (b ∷ bs) h = omega arith
+-- a node beside those before it
+pub node_room : {A : Type 0} (f : A → List Cell) (ns : List (Arc A Global)) (i : ℕ) (n : Arc A Global) → i < length ns → n ≡ get_or ns i n → length (node_cells f (take i ns)) + length (f (arc_value n)) ≤ length (node_cells f ns)
+node_room f ns i n h e =
+    omega (arith, ap length (split_nodes f (i + 1) ns), length-append (node_cells f (take (i + 1) ns)) (node_cells f (drop (i + 1) ns)), ap length (next_node f ns i n h e), length-append (node_cells f (take i ns)) (f (arc_value n)))
 
-pub split_cells : (n : ℕ) (bs : List (Arc (List Cell) Global)) → all_cells (take n bs) ++ all_cells (drop n bs) ≡ all_cells bs
-split_cells n bs = sym (blocks-append (take n bs) (drop n bs)) ∙ ap all_cells (take-append-drop n bs)
-
-pub no_blocks : (bs : List (Arc (List Cell) Global)) → (length bs == 0) ≡ true → all_cells bs ≡ []
-no_blocks [] h = refl
-no_blocks (b ∷ bs) h = absurd (never (sym (ap (λ (n : ℕ). n == 0) (let e : length (b ∷ bs) ≡ suc (length bs) = omega arith in e)) ∙ h))
+pub no_nodes : {A : Type 0} (f : A → List Cell) (ns : List (Arc A Global)) → (length ns == 0) ≡ true → node_cells f ns ≡ []
+no_nodes f [] h = refl
+no_nodes f (n ∷ ns) h = absurd (never (sym (ap (λ (k : ℕ). k == 0) (let e : length (n ∷ ns) ≡ suc (length ns) = omega arith in e)) ∙ h))
   where
-    never : (suc (length bs) == 0) ≡ true → ⊥
+    never : (suc (length ns) == 0) ≡ true → ⊥
     never e = grind (arith, nat_tests)
+
+-- nodes that are shared have the same cells
+pub clones_alike : {A : Type 0} (f : A → List Cell) (ns ms : List (Arc A Global)) → AllZip (λ n m. arc_value m ≡ arc_value n) ns ms → node_cells f ms ≡ node_cells f ns
+clones_alike f [] [] h = refl
+clones_alike f [] (m ∷ ms) h = absurd h
+clones_alike f (n ∷ ns) [] h = absurd h
+clones_alike f (n ∷ ns) (m ∷ ms) h = ap₂ (λ cs ds. f cs ++ ds) h.0 (clones_alike f ns ms h.1)
+
+pub shared : {A : Type 0} (f : A → List Cell) (old new more : List (Arc A Global)) → AppendsClones (λ n m. arc_value m ≡ arc_value n) old new more → node_cells f new ≡ node_cells f old ++ node_cells f more
+shared f old new more h = ap (node_cells f) h.1 ∙ nodes-append f old h.0 ∙ ap (λ ds. node_cells f old ++ ds) (clones_alike f more h.0 h.2)
+
+pub copied : (old new more ns : List (Arc (List Cell) Global)) → old ≡ [] → AppendsClones (λ n m. arc_value m ≡ arc_value n) old new more → more ≡ ns → all_cells new ≡ all_cells ns
+copied old new more ns none h e = shared its_own old new more h ∙ (λ i. all_cells (none i) ++ all_cells (e i))
+
+-- nodes that are added to the last ones of all that is written
+pub added_last : (all self base new later old rest : List Cell) → self ++ rest ≡ all → base ++ old ≡ self → new ++ later ≡ old ++ rest → (base ++ new) ++ later ≡ all
+added_last all self base new later old rest whole told more =
+    append_assoc base new later ∙ ap (λ cs. base ++ cs) more ∙ sym (append_assoc base old rest) ∙ ap (λ cs. cs ++ rest) told ∙ whole
 
 -- ---- what is seen of two texts
 
@@ -159,14 +173,14 @@ seen_room s t us vs a b h = record {
   tail = omega (arith, a.units, b.units, a.within, h);
 }
 
--- a block behind those that were seen
-pub blocks_room : (bs : List (Arc (List Cell) Global)) (i : ℕ) (b : Arc (List Cell) Global) (s t : Seen) → i < length bs → b ≡ get_or bs i b → length (all_cells bs) < 2 ^ 32
-    → Sees s (text_of (all_cells (take i bs))) → Sees t (text_of (arc_value b)) → HasRoom s t
-blocks_room bs i b s t h e short a k = seen_room s t _ _ a k (omega (arith, short, block_room bs i b h e, length_text (all_cells (take i bs)), length_text (arc_value b)))
+-- a node behind those that were seen
+pub nodes_room : {A : Type 0} (f : A → List Cell) (ns : List (Arc A Global)) (i : ℕ) (n : Arc A Global) (s t : Seen) → i < length ns → n ≡ get_or ns i n → length (node_cells f ns) < 2 ^ 32
+    → Sees s (text_of (node_cells f (take i ns))) → Sees t (text_of (f (arc_value n))) → HasRoom s t
+nodes_room f ns i n s t h e short v k = seen_room s t _ _ v k (omega (arith, short, node_room f ns i n h e, length_text (node_cells f (take i ns)), length_text (f (arc_value n))))
 
-pub blocks_seen : (bs : List (Arc (List Cell) Global)) (i : ℕ) (b : Arc (List Cell) Global) (s t r : Seen) → i < length bs → b ≡ get_or bs i b → Sees s (text_of (all_cells (take i bs))) → Sees t (text_of (arc_value b))
-    → ((us vs : Text) → Sees s us → Sees t vs → Sees r (us ++ vs)) → Sees r (text_of (all_cells (take (i + 1) bs)))
-blocks_seen bs i b s t r h e a k on = subst (Sees r) (sym (ap text_of (next_block bs i b h e) ∙ text-append (all_cells (take i bs)) (arc_value b))) (on _ _ a k)
+pub nodes_seen : {A : Type 0} (f : A → List Cell) (ns : List (Arc A Global)) (i : ℕ) (n : Arc A Global) (s t r : Seen) → i < length ns → n ≡ get_or ns i n → Sees s (text_of (node_cells f (take i ns))) → Sees t (text_of (f (arc_value n)))
+    → ((us vs : Text) → Sees s us → Sees t vs → Sees r (us ++ vs)) → Sees r (text_of (node_cells f (take (i + 1) ns)))
+nodes_seen f ns i n s t r h e v k on = subst (Sees r) (sym (ap text_of (next_node f ns i n h e) ∙ text-append (node_cells f (take i ns)) (f (arc_value n)))) (on _ _ v k)
 
 -- the last block's text is the end of the text
 pub last_high : (here : Text) (bs : List (Arc (List Cell) Global)) (b : Arc (List Cell) Global) → 1 ≤ length bs → b ≡ get_or bs (length bs - 1) b → 1 ≤ length (arc_value b)

@@ -1,18 +1,25 @@
--- Documents as blocks that they share, in groups that they share, and what is kept of the text of each.
-use Rattle.std.specs.Prelude.{◌≡◌, ◌≤◌, ◌-◌, true, List, [], ◌∷◌, ◌++◌, length, take, drop}
+-- Documents as nodes that they share, which are blocks, groups of blocks and pages of groups, and what is kept of the text of each.
+use Rattle.std.specs.Prelude.{◌≡◌, ◌≤◌, ◌-◌, true, List, [], ◌∷◌, ◌++◌, length, take, drop, Option, Some, None}
 use Rattle.std.specs.Arc.{arc_value}
 use Rattle.std.specs.declared.sync.Arc.{Arc}
 use Rattle.std.specs.declared.alloc.Global.{Global}
 use Rattle.ep_units.specs.Text.{Text}
-use Rattle.ep_cs.specs.Doc.{Cell}
+use Rattle.ep_cs.specs.Doc.{Cell, text_of}
 use Rattle.ep_cs.specs.Lines.{count_lines, is_whole_lines}
 use Rattle.ep_apply.specs.PairEnds.{ends_high}
 use Rattle.ep_apply.specs.declared.seen.Seen.{Seen}
 
--- the cells of blocks or of groups, one after another
+-- the cells of nodes, one after another, where each has these
+abbrev pub node_cells : {A : Type 0} → (A → List Cell) → List (Arc A Global) → List Cell
+node_cells cells [] = []
+node_cells cells (a ∷ nodes) = cells (arc_value a) ++ node_cells cells nodes
+
+abbrev pub its_own : List Cell → List Cell
+its_own cs = cs
+
+-- the cells of blocks, of groups or of pages, one after another
 abbrev pub all_cells : List (Arc (List Cell) Global) → List Cell
-all_cells [] = []
-all_cells (b ∷ bs) = arc_value b ++ all_cells bs
+all_cells = node_cells its_own
 
 -- what is told of a text is true: all but its last `tail` units are whole lines, and these have no newline
 pub record Sees (s : Seen) (us : Text) : Type 0 where
@@ -22,3 +29,13 @@ pub record Sees (s : Seen) (us : Text) : Type 0 where
   pub before : is_whole_lines (take (s.units - s.tail) us) ≡ true
   pub behind : count_lines (drop (s.units - s.tail) us) ≡ 0
   pub high : s.high ≡ ends_high us
+
+-- the cells of a node that is there, where it is
+abbrev pub made : Option (Arc (List Cell) Global) → List Cell
+made None = []
+made (Some node) = arc_value node
+
+-- a node isn't empty
+pub record IsNode (s : Seen) (cs : List Cell) : Type 0 where
+  pub some : 1 ≤ length cs
+  pub seen : Sees s (text_of cs)

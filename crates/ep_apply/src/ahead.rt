@@ -1,4 +1,4 @@
-//! Blocks and groups that are passed from the first to the last.
+//! Blocks, groups and pages that are passed from the first to the last.
 
 ghost use Rattle.std.specs.Prelude.{◌≡◌, ◌≤◌, ◌++◌, [], length, take, drop, MatchOption};
 ghost use Rattle.std.specs.Arc.{arc_value};
@@ -8,17 +8,18 @@ ghost use Rattle.ep_apply.specs.Blocks.{Sees, all_cells};
 ghost use Rattle.ep_apply.specs.PairEnds.{ends_high};
 
 use crate::block::Block;
-use crate::front::{Front, blocks_within, groups_within};
-use crate::group::Group;
+use crate::front::{Front, pass_within, take_within};
+use crate::groups::Groups;
+use crate::node::{Group, Node, Page};
 use crate::seen::Seen;
 use std::marker::Model;
 use std::sync::Arc;
 
-/// What is ahead in a document: the blocks of a group that is begun, and the groups behind it.
+/// What is ahead in a document: the blocks of a group that is begun, and the groups and pages behind it.
 #[derive(Drop)]
 pub struct Ahead<'a> {
     blocks: &'a [Arc<Block>],
-    groups: &'a [Arc<Group>],
+    groups: Groups<'a>,
 }
 
 impl<'a> Model for Ahead<'a> {
@@ -37,12 +38,12 @@ impl<'a> Model for Ahead<'a> {
 }
 
 impl<'a> Ahead<'a> {
-    pub fn of(groups: &'a [Arc<Group>]) -> Ahead<'a>
-        ensures { result ≡ all_cells groups.now }
+    pub fn of(groups: &'a [Arc<Group>], pages: &'a [Arc<Page>]) -> Ahead<'a>
+        ensures { result ≡ all_cells groups.now ++ all_cells pages.now }
     {
         Ahead {
             blocks: &[],
-            groups,
+            groups: Groups::of(groups, pages),
         }
     }
 
@@ -53,85 +54,45 @@ impl<'a> Ahead<'a> {
         if !self.blocks.is_empty() {
             return;
         }
-        if let [group, later @ ..] = self.groups {
-            self.blocks = group.blocks();
-            self.groups = later;
+        if let Some(group) = self.groups.take() {
+            self.blocks = group.items();
         }
     }
 
     /// Takes the next block.
     pub fn take(&mut self) -> Option<&'a Arc<Block>>
-        ensures { MatchOption result ((self.old ≡ []) × (self.new ≡ [])) (λ b. self.old ≡ arc_value b.now ++ self.new) }
+        ensures { MatchOption result ((self.old ≡ []) × (self.new ≡ [])) (λ x. self.old ≡ arc_value x.now ++ self.new) }
     {
-        let blocks = match (self.blocks, self.groups) {
-            ([], []) => return None,
-            ([], [group, later @ ..]) => {
-                self.groups = later;
-                group.blocks()
-            }
-            (blocks, _) => blocks,
+        let blocks = match self.blocks {
+            [] => self.groups.take()?.items(),
+            blocks => blocks,
         };
         self.blocks = &blocks[1..];
         Some(&blocks[0])
     }
 
-    /// Takes the next block, where it has at most so many units.
-    pub fn take_block(&mut self, most: u32) -> Option<&'a Arc<Block>>
-        ensures { MatchOption result (self.new ≡ self.old)
-            (λ b. (self.old ≡ arc_value b.now ++ self.new) × (1 ≤ length (arc_value b.now)) × (length (arc_value b.now) ≤ most)) }
-    {
-        self.begin();
-        match self.blocks {
-            [] => None,
-            [block, later @ ..] => {
-                if block.seen().units > most {
-                    return None;
-                }
-                self.blocks = later;
-                Some(block)
-            }
-        }
-    }
-
-    /// Takes the next group, where none is begun and this one has at most so many units.
-    pub fn take_group(&mut self, most: u32) -> Option<&'a Arc<Group>>
-        ensures { MatchOption result (self.new ≡ self.old)
-            (λ g. (self.old ≡ arc_value g.now ++ self.new) × (1 ≤ length (arc_value g.now)) × (length (arc_value g.now) ≤ most)) }
+    /// Takes the next pages, where no page and no group is begun: as many as have at most so many units.
+    pub fn take_pages(&mut self, most: u32) -> Front<'a, Page>
+        ensures taken { self.old ≡ all_cells result.items.now ++ self.new }
+        ensures units { result.units ≡ length (all_cells result.items.now) }
+        ensures most { result.units ≤ most }
     {
         if !self.blocks.is_empty() {
-            return None;
+            return Front::none();
         }
-        match self.groups {
-            [] => None,
-            [group, later @ ..] => {
-                if group.seen().units > most {
-                    return None;
-                }
-                self.groups = later;
-                Some(group)
-            }
-        }
+        self.groups.take_pages(most)
     }
 
-    /// Takes the next groups, where none is begun: as many as have at most so many units.
+    /// Takes the next groups of one page, where no group is begun: as many as have at most so many units.
     pub fn take_groups(&mut self, most: u32) -> Front<'a, Group>
         ensures taken { self.old ≡ all_cells result.items.now ++ self.new }
         ensures units { result.units ≡ length (all_cells result.items.now) }
         ensures most { result.units ≤ most }
     {
         if !self.blocks.is_empty() {
-            return Front {
-                items: &[],
-                units: 0,
-            };
+            return Front::none();
         }
-        let fit = groups_within(self.groups, most);
-        let (items, later) = self.groups.split_at(fit.count);
-        self.groups = later;
-        Front {
-            items,
-            units: fit.units,
-        }
+        self.groups.take_groups(most)
     }
 
     /// Takes the next blocks of one group: as many as have at most so many units.
@@ -141,32 +102,29 @@ impl<'a> Ahead<'a> {
         ensures most { result.units ≤ most }
     {
         self.begin();
-        let fit = blocks_within(self.blocks, most);
-        let (items, later) = self.blocks.split_at(fit.count);
-        self.blocks = later;
-        Front {
-            items,
-            units: fit.units,
-        }
+        take_within(&mut self.blocks, most)
     }
 
-    /// Passes the next group or block, where it has at most so many units.
+    /// Passes the next page, group or block, where it has at most so many units.
     pub fn pass(&mut self, most: u32) -> Option<Seen>
         ensures { MatchOption result (self.new ≡ self.old)
             (λ s. Sees s (text_of (take s.units self.old)) × (self.new ≡ drop s.units self.old) × (1 ≤ s.units) × (s.units ≤ most)) }
     {
-        if let Some(group) = self.take_group(most) {
-            return Some(group.seen());
+        if self.blocks.is_empty() {
+            if let Some(seen) = self.groups.pass(most) {
+                return Some(seen);
+            }
         }
-        Some(self.take_block(most)?.seen())
+        self.begin();
+        pass_within(&mut self.blocks, most)
     }
 
     /// Whether it ends in the first half of a pair, where anything is left.
     pub fn ends_high(&self) -> Option<bool>
         ensures { MatchOption result (self.now ≡ []) (λ high. (us : Text) → ends_high (us ++ text_of self.now) ≡ high) }
     {
-        if let [.., group] = self.groups {
-            return Some(group.seen().high);
+        if let Some(high) = self.groups.ends_high() {
+            return Some(high);
         }
         match self.blocks {
             [] => None,

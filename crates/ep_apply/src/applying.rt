@@ -39,7 +39,7 @@ fn apply_op(
     }
 }
 
-/// The document after a change that fits it. It shares the groups and blocks in which nothing is altered.
+/// The document after a change that fits it. It shares the pages, groups and blocks in which nothing is altered.
 pub fn apply(alloc: Global, doc: &Doc, change: &Change) -> Result<Doc, NoMemory>
     requires { Fits change.now doc.now }
     ensures { IfOk result (λ after. after ≡ apply change.now.edit doc.now) }
@@ -57,9 +57,9 @@ pub fn apply(alloc: Global, doc: &Doc, change: &Change) -> Result<Doc, NoMemory>
     }
     let as_it_is = AttrMap::none(alloc);
     keep(alloc, &mut out, &mut rest, doc.len() - at, &as_it_is)?;
-    let groups = out.finish()?;
+    let body = out.finish()?;
     Ok(Doc {
-        groups,
+        body,
         units: change.new_len(),
     })
 }

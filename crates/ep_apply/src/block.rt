@@ -4,6 +4,7 @@ ghost use Rattle.std.specs.Prelude.{◌≡◌, ◌≤◌, length};
 ghost use Rattle.ep_cs.specs.Doc.{text_of};
 ghost use Rattle.ep_apply.specs.Blocks.{Sees};
 
+use crate::node::Node;
 use crate::seen::Seen;
 use ep_parts::{Parts, Within};
 use std::marker::Model;
@@ -41,13 +42,6 @@ impl Block {
         Block { seen, parts }
     }
 
-    pub fn seen(&self) -> Seen
-        ensures seen { Sees result (text_of self.now) }
-        ensures some { 1 ≤ result.units }
-    {
-        self.seen
-    }
-
     pub fn text(&self) -> &[u16]
         ensures text { result.now ≡ text_of self.now }
         ensures some { 1 ≤ length result.now }
@@ -61,5 +55,16 @@ impl Block {
         ensures some { 1 ≤ length self.now }
     {
         self.parts.within()
+    }
+}
+
+impl Node for Block {
+    ghost use Rattle.std.specs.Prelude.{List};
+    ghost use Rattle.ep_cs.specs.Doc.{Cell};
+
+    ghost cells = { λ b. b };
+
+    fn seen(&self) -> Seen {
+        self.seen
     }
 }

@@ -5,8 +5,7 @@ ghost use Rattle.ep_cs.specs.Doc.{text_of};
 ghost use Rattle.ep_cs.specs.Plain.{plain};
 ghost use Rattle.ep_apply.specs.Documents.{IsDocument, insertion};
 
-use crate::ahead::Ahead;
-use crate::group::Group;
+use crate::body::Body;
 use crate::passing::Passing;
 use crate::reading::Reading;
 use crate::writer::Writer;
@@ -16,17 +15,14 @@ use ep_parts::{Seam, Within};
 use ep_units::{NoMemory, Units};
 use std::alloc::Global;
 use std::marker::Model;
-use std::sync::Arc;
-
-/// How many groups more a change may make of a document before their list grows.
-const SPARE: usize = 4;
 
 /// Attributed text: no half of a pair stands alone, the halves of a pair have equal maps, and no map has an empty value.
 ///
-/// It stands in groups of at most 32 blocks of at most 1,024 UTF-16 units. Documents share groups and blocks.
+/// It stands in pages of at most 9 groups of at most 16 blocks of at most 1,024 UTF-16 units; one that is short has groups
+/// and no page. Documents share pages, groups and blocks.
 #[derive(Drop)]
 pub struct Doc {
-    pub(crate) groups: Vec<Arc<Group>>,
+    pub(crate) body: Body,
     pub(crate) units: u32,
 }
 
@@ -53,7 +49,7 @@ impl Doc {
         ensures { result ≡ [] }
     {
         Doc {
-            groups: Vec::new(alloc),
+            body: Body::empty(alloc),
             units: 0,
         }
     }
@@ -62,10 +58,10 @@ impl Doc {
     pub fn newline(alloc: Global) -> Result<Doc, NoMemory>
         ensures { IfOk result (λ d. d ≡ plain (10 ∷ [])) }
     {
-        let mut out = Writer::with_room(alloc, 1)?;
+        let mut out = Writer::with_room(alloc, 0)?;
         out.push(&[10], &AttrMap::none(alloc), Seam::Joined)?;
         Ok(Doc {
-            groups: out.finish()?,
+            body: out.finish()?,
             units: 1,
         })
     }
@@ -82,7 +78,7 @@ impl Doc {
         ensures { IfOk result (λ text. text ≡ text_of self.now) }
     {
         let mut text = Units::with_capacity(alloc, self.units as usize)?;
-        let mut rest = Ahead::of(&self.groups);
+        let mut rest = self.body.ahead();
         'all: while let Some(block) = rest.take() {
             text.push_all(block.text())?;
         }
@@ -93,12 +89,8 @@ impl Doc {
     pub fn copy(&self, alloc: Global) -> Result<Doc, NoMemory>
         ensures { IfOk result (λ d. d ≡ self.now) }
     {
-        let mut groups = Vec::with_capacity(alloc, self.groups.len())?;
-        for group in &self.groups {
-            groups.push(Arc::try_clone(group)?)?;
-        }
         Ok(Doc {
-            groups,
+            body: self.body.copy(alloc)?,
             units: self.units,
         })
     }
@@ -123,7 +115,7 @@ impl Doc {
     {
         Reading {
             here: Within::nothing(),
-            ahead: Ahead::of(&self.groups),
+            ahead: self.body.ahead(),
         }
     }
 
@@ -133,7 +125,7 @@ impl Doc {
     {
         Passing {
             here: &[],
-            ahead: Ahead::of(&self.groups),
+            ahead: self.body.ahead(),
         }
     }
 
@@ -141,6 +133,6 @@ impl Doc {
     pub(crate) fn writer(&self, alloc: Global) -> Result<Writer, NoMemory>
         ensures { IfOk result (λ w. w ≡ []) }
     {
-        Writer::with_room(alloc, self.groups.len().saturating_add(SPARE))
+        Writer::with_room(alloc, self.body.pages())
     }
 }

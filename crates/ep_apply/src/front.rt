@@ -1,13 +1,15 @@
-//! The first of a document's groups or blocks, as far as they fit.
+//! The first of some nodes, as far as they fit.
 
-ghost use Rattle.std.specs.Prelude.{◌≡◌, ◌≤◌, [], length, take};
-ghost use Rattle.ep_apply.specs.Blocks.{all_cells};
+ghost use Rattle.std.specs.Prelude.{◌≡◌, ◌≤◌, ◌<◌, ◌++◌, [], length, take, drop, MatchOption, IfOk};
+ghost use Rattle.ep_cs.specs.Doc.{text_of};
+ghost use Rattle.ep_apply.specs.Blocks.{Sees, node_cells};
 
-use crate::block::Block;
-use crate::group::Group;
+use crate::node::Node;
+use crate::seen::Seen;
+use ep_units::NoMemory;
 use std::sync::Arc;
 
-/// Groups or blocks one behind another, and how many units they have together.
+/// Nodes one behind another, and how many units they have together.
 #[derive(Drop)]
 pub struct Front<'a, T> {
     pub items: &'a [Arc<T>],
@@ -21,15 +23,15 @@ pub struct Fit {
     pub units: u32,
 }
 
-/// As many groups as have at most so many units.
-pub fn groups_within(groups: &[Arc<Group>], most: u32) -> Fit
-    ensures count { result.count ≤ length groups.now }
-    ensures units { result.units ≡ length (all_cells (take result.count groups.now)) }
+/// As many nodes as have at most so many units.
+fn within<T: Node>(nodes: &[Arc<T>], most: u32) -> Fit
+    ensures count { result.count ≤ length nodes.now }
+    ensures units { result.units ≡ length (node_cells T.cells (take result.count nodes.now)) }
     ensures most { result.units ≤ most }
 {
     let mut fit = Fit { count: 0, units: 0 };
-    for group in groups {
-        let more = group.seen().units;
+    for node in nodes {
+        let more = node.seen().units;
         if more > most - fit.units {
             return fit;
         }
@@ -41,22 +43,70 @@ pub fn groups_within(groups: &[Arc<Group>], most: u32) -> Fit
     fit
 }
 
-/// As many blocks as have at most so many units.
-pub fn blocks_within(blocks: &[Arc<Block>], most: u32) -> Fit
-    ensures count { result.count ≤ length blocks.now }
-    ensures units { result.units ≡ length (all_cells (take result.count blocks.now)) }
+impl<'a, T> Front<'a, T> {
+    /// No nodes.
+    pub fn none() -> Front<'a, T>
+        ensures items { result.items.now ≡ [] }
+        ensures units { result.units ≡ 0 }
+    {
+        Front {
+            items: &[],
+            units: 0,
+        }
+    }
+}
+
+/// Takes as many nodes as have at most so many units.
+pub fn take_within<'a, T: Node>(nodes: &mut &'a [Arc<T>], most: u32) -> Front<'a, T>
+    ensures taken { node_cells T.cells nodes.old.now ≡ node_cells T.cells result.items.now ++ node_cells T.cells nodes.new.now }
+    ensures units { result.units ≡ length (node_cells T.cells result.items.now) }
     ensures most { result.units ≤ most }
 {
-    let mut fit = Fit { count: 0, units: 0 };
-    for block in blocks {
-        let more = block.seen().units;
-        if more > most - fit.units {
-            return fit;
-        }
-        fit = Fit {
-            count: fit.count + 1,
-            units: fit.units + more,
-        };
+    let fit = within(*nodes, most);
+    let (items, later) = nodes.split_at(fit.count);
+    *nodes = later;
+    Front {
+        items,
+        units: fit.units,
     }
-    fit
+}
+
+/// Passes the first node, where it has at most so many units.
+pub fn pass_within<'a, T: Node>(nodes: &mut &'a [Arc<T>], most: u32) -> Option<Seen>
+    ensures { MatchOption result (nodes.new ≡ nodes.old)
+        (λ s. Sees s (text_of (take s.units (node_cells T.cells nodes.old.now))) × (node_cells T.cells nodes.new.now ≡ drop s.units (node_cells T.cells nodes.old.now)) × (1 ≤ s.units) × (s.units ≤ most)) }
+{
+    match *nodes {
+        [] => None,
+        [node, later @ ..] => {
+            let seen = node.seen();
+            if seen.units > most {
+                return None;
+            }
+            *nodes = later;
+            Some(seen)
+        }
+    }
+}
+
+/// Whether nodes that are open, one more and so many others are at most so many. None are open: no.
+pub fn have_room<T>(open: &[Arc<T>], others: usize, most: usize) -> bool {
+    !open.is_empty() && others < most.saturating_sub(open.len())
+}
+
+/// Adds the first of some nodes, which a document shares, to the last ones that are written, at least one and
+/// as many as make at most so many, and answers the others.
+pub fn share_front<'a, T: Node>(
+    last: &mut Vec<Arc<T>>,
+    nodes: &'a [Arc<T>],
+    most: usize,
+) -> Result<&'a [Arc<T>], NoMemory>
+    requires { 1 ≤ length nodes.now }
+    ensures shared { IfOk result (λ rest. node_cells T.cells last.new.items ++ node_cells T.cells rest.now ≡ node_cells T.cells last.old.items ++ node_cells T.cells nodes.now) }
+    ensures fewer { IfOk result (λ rest. length rest.now < length nodes.now) }
+{
+    let room = most.saturating_sub(last.len()).max(1);
+    let (front, rest) = nodes.split_at(room.min(nodes.len()));
+    last.extend_with_clones(front)?;
+    Ok(rest)
 }

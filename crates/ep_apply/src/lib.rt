@@ -4,16 +4,19 @@
 mod ahead;
 mod applying;
 mod block;
+mod body;
 mod doc;
 mod fitting;
 mod front;
-mod group;
+mod groups;
 mod laws;
 mod moving;
+mod node;
 mod passing;
 mod pile;
 mod reading;
 mod seen;
+mod stack;
 mod writer;
 
 pub use applying::apply;

@@ -10,6 +10,29 @@ use ep_parts::Seam;
 use ep_units::NoMemory;
 use std::alloc::Global;
 
+/// Moves the next stretch, of at most so many units, and answers how many it has.
+fn keep_stretch(
+    out: &mut Writer,
+    rest: &mut Reading<'_>,
+    most: u32,
+    seam: Seam,
+) -> Result<u32, NoMemory>
+    requires some { 1 ≤ most }
+    requires inside { most ≤ length rest.old }
+    requires short { length out.old + most < 2 ^ 32 }
+    ensures units { IfOk result (λ n. (1 ≤ n) × (n ≤ most)) }
+    ensures done { IfOk result (λ n. out.new ≡ out.old ++ take n rest.old) }
+    ensures rest { IfOk result (λ n. rest.new ≡ drop n rest.old) }
+{
+    match rest.take(most) {
+        None => Ok(most),
+        Some(stretch) => {
+            out.push(stretch.text, stretch.attrs, seam)?;
+            Ok(stretch.text.len() as u32)
+        }
+    }
+}
+
 /// Moves what is next, of at most so many units, and answers how many it has.
 fn keep_piece(
     out: &mut Writer,
@@ -24,6 +47,14 @@ fn keep_piece(
     ensures done { IfOk result (λ n. out.new ≡ out.old ++ take n rest.old) }
     ensures rest { IfOk result (λ n. rest.new ≡ drop n rest.old) }
 {
+    if rest.is_inside() {
+        return keep_stretch(out, rest, most, seam);
+    }
+    let pages = rest.take_pages(most);
+    if pages.units > 0 {
+        out.push_pages(pages.items)?;
+        return Ok(pages.units);
+    }
     let groups = rest.take_groups(most);
     if groups.units > 0 {
         out.push_groups(groups.items)?;
@@ -34,13 +65,7 @@ fn keep_piece(
         out.push_blocks(blocks.items)?;
         return Ok(blocks.units);
     }
-    match rest.take(most) {
-        None => Ok(most),
-        Some(stretch) => {
-            out.push(stretch.text, stretch.attrs, seam)?;
-            Ok(stretch.text.len() as u32)
-        }
-    }
+    keep_stretch(out, rest, most, seam)
 }
 
 /// Moves the next stretch, of at most so many units, after a map, and answers how many it has.

@@ -5,21 +5,23 @@ ghost use Rattle.std.specs.Arc.{arc_value};
 ghost use Rattle.ep_apply.specs.Blocks.{all_cells};
 
 use crate::block::Block;
-use crate::group::{Group, seen_of};
+use crate::body::Body;
+use crate::front::{have_room, share_front};
+use crate::node::{Group, Page, gather};
+use crate::stack::Stack;
 use ep_units::NoMemory;
 use std::alloc::Global;
 use std::marker::Model;
-use std::mem;
 use std::sync::Arc;
 
 /// How many blocks a group has at most.
-const MOST: usize = 32;
+const MOST: usize = 16;
 
 /// Groups that are written, and the blocks behind them that are in no group yet.
 #[derive(Drop)]
 pub struct Pile {
     alloc: Global,
-    groups: Vec<Arc<Group>>,
+    groups: Stack,
     blocks: Vec<Arc<Block>>,
 }
 
@@ -38,59 +40,26 @@ impl Model for Pile {
     ghost view = { piled };
 }
 
-/// Makes a group of blocks.
-fn make_group(
-    alloc: Global,
-    groups: &mut Vec<Arc<Group>>,
-    blocks: &mut Vec<Arc<Block>>,
-) -> Result<(), NoMemory>
-    requires { length (all_cells blocks.old.items) < 2 ^ 32 }
-    ensures groups { OnOk result (all_cells groups.new.items ≡ all_cells groups.old.items ++ all_cells blocks.old.items) }
-    ensures blocks { OnOk result (all_cells blocks.new.items ≡ []) }
-{
-    let seen = seen_of(blocks);
-    if seen.units == 0 {
-        return Ok(());
-    }
-    let blocks = mem::replace(blocks, Vec::new(alloc));
-    groups.push(Arc::new(alloc, Group::new(blocks, seen))?)?;
-    Ok(())
-}
-
 /// Makes a group of blocks, where there are any.
-fn close(
-    alloc: Global,
-    groups: &mut Vec<Arc<Group>>,
-    blocks: &mut Vec<Arc<Block>>,
-) -> Result<(), NoMemory>
-    requires { length (all_cells blocks.old.items) < 2 ^ 32 }
-    ensures groups { OnOk result (all_cells groups.new.items ≡ all_cells groups.old.items ++ all_cells blocks.old.items) }
+fn close(alloc: Global, groups: &mut Stack, blocks: &mut Vec<Arc<Block>>) -> Result<(), NoMemory>
+    requires { length groups.old + length (all_cells blocks.old.items) < 2 ^ 32 }
+    ensures groups { OnOk result (groups.new ≡ groups.old ++ all_cells blocks.old.items) }
     ensures blocks { OnOk result (all_cells blocks.new.items ≡ []) }
 {
-    if blocks.is_empty() {
-        return Ok(());
-    }
-    make_group(alloc, groups, blocks)
-}
-
-/// Adds groups that a document shares to a list.
-fn share_each(list: &mut Vec<Arc<Group>>, groups: &[Arc<Group>]) -> Result<(), NoMemory>
-    ensures { OnOk result (all_cells list.new.items ≡ all_cells list.old.items ++ all_cells groups.now) }
-{
-    for group in groups {
-        list.push(Arc::try_clone(group)?)?;
+    if let Some(group) = gather(alloc, blocks)? {
+        groups.add(group)?;
     }
     Ok(())
 }
 
 impl Pile {
-    /// Nothing, with room for so many groups.
-    pub fn with_room(alloc: Global, groups: usize) -> Result<Pile, NoMemory>
+    /// Nothing, with room for so many pages.
+    pub fn with_room(alloc: Global, pages: usize) -> Result<Pile, NoMemory>
         ensures { IfOk result (λ p. p ≡ []) }
     {
         Ok(Pile {
             alloc,
-            groups: Vec::with_capacity(alloc, groups)?,
+            groups: Stack::with_room(alloc, pages)?,
             blocks: Vec::new(alloc),
         })
     }
@@ -111,7 +80,12 @@ impl Pile {
 
     /// Whether blocks that are in no group, one that is open and so many more are not too many for a group.
     pub fn has_room(&self, blocks: usize) -> bool {
-        !self.blocks.is_empty() && self.blocks.len() < MOST && blocks < MOST - self.blocks.len()
+        have_room(&self.blocks, blocks, MOST)
+    }
+
+    /// Whether groups that are in no page, one that is open and so many more are not too many for a page.
+    pub fn has_page_room(&self, groups: usize) -> bool {
+        self.groups.has_room(groups)
     }
 
     /// Adds a block, and begins a group where there are too many for one.
@@ -129,29 +103,40 @@ impl Pile {
         requires { length self.old + length (all_cells blocks.now) < 2 ^ 32 }
         ensures { OnOk result (self.new ≡ self.old ++ all_cells blocks.now) }
     {
-        for block in blocks {
-            self.add(Arc::try_clone(block)?)?;
+        let mut rest = blocks;
+        'fronts: while !rest.is_empty() {
+            self.make_room()?;
+            rest = share_front(&mut self.blocks, rest, MOST)?;
         }
         Ok(())
     }
 
     /// Adds groups that a document shares.
     pub fn share_all(&mut self, groups: &[Arc<Group>]) -> Result<(), NoMemory>
-        requires { length self.old < 2 ^ 32 }
+        requires { length self.old + length (all_cells groups.now) < 2 ^ 32 }
         ensures { OnOk result (self.new ≡ self.old ++ all_cells groups.now) }
     {
         close(self.alloc, &mut self.groups, &mut self.blocks)?;
-        share_each(&mut self.groups, groups)
+        self.groups.add_all(groups)
     }
 
-    /// All in groups.
-    pub fn finish(self) -> Result<Vec<Arc<Group>>, NoMemory>
+    /// Adds pages that a document shares.
+    pub fn share_pages(&mut self, pages: &[Arc<Page>]) -> Result<(), NoMemory>
+        requires { length self.old < 2 ^ 32 }
+        ensures { OnOk result (self.new ≡ self.old ++ all_cells pages.now) }
+    {
+        close(self.alloc, &mut self.groups, &mut self.blocks)?;
+        self.groups.share_all(pages)
+    }
+
+    /// All of it.
+    pub fn finish(self) -> Result<Body, NoMemory>
         requires { length self < 2 ^ 32 }
-        ensures { IfOk result (λ groups. all_cells groups.items ≡ self) }
+        ensures { IfOk result (λ body. body ≡ self) }
     {
         let mut groups = self.groups;
         let mut blocks = self.blocks;
         close(self.alloc, &mut groups, &mut blocks)?;
-        Ok(groups)
+        groups.finish()
     }
 }

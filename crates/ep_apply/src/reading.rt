@@ -8,7 +8,7 @@ ghost use Rattle.ep_apply.specs.Blocks.{all_cells};
 use crate::ahead::Ahead;
 use crate::block::Block;
 use crate::front::Front;
-use crate::group::Group;
+use crate::node::{Group, Page};
 use ep_parts::{Stretch, Within};
 use std::marker::Model;
 use std::sync::Arc;
@@ -49,39 +49,31 @@ impl<'a> Reading<'a> {
         self.here.take(most)
     }
 
-    /// Takes the next group, where none is begun and this one has at most so many units.
-    pub(crate) fn take_group(&mut self, most: u32) -> Option<&'a Arc<Group>>
-        ensures { MatchOption result (self.new ≡ self.old)
-            (λ g. (self.old ≡ arc_value g.now ++ self.new) × (1 ≤ length (arc_value g.now)) × (length (arc_value g.now) ≤ most)) }
-    {
-        if !self.here.is_over() {
-            return None;
-        }
-        self.ahead.take_group(most)
+    /// Whether a block is begun.
+    pub(crate) fn is_inside(&self) -> bool {
+        !self.here.is_over()
     }
 
-    /// Takes the next block, where none is begun and this one has at most so many units.
-    pub(crate) fn take_block(&mut self, most: u32) -> Option<&'a Arc<Block>>
-        ensures { MatchOption result (self.new ≡ self.old)
-            (λ b. (self.old ≡ arc_value b.now ++ self.new) × (1 ≤ length (arc_value b.now)) × (length (arc_value b.now) ≤ most)) }
+    /// Takes the next pages, where no block, no group and no page is begun: as many as have at most so many units.
+    pub(crate) fn take_pages(&mut self, most: u32) -> Front<'a, Page>
+        ensures taken { self.old ≡ all_cells result.items.now ++ self.new }
+        ensures units { result.units ≡ length (all_cells result.items.now) }
+        ensures most { result.units ≤ most }
     {
         if !self.here.is_over() {
-            return None;
+            return Front::none();
         }
-        self.ahead.take_block(most)
+        self.ahead.take_pages(most)
     }
 
-    /// Takes the next groups, where no block and no group is begun: as many as have at most so many units.
+    /// Takes the next groups of one page, where no block and no group is begun: as many as have at most so many units.
     pub(crate) fn take_groups(&mut self, most: u32) -> Front<'a, Group>
         ensures taken { self.old ≡ all_cells result.items.now ++ self.new }
         ensures units { result.units ≡ length (all_cells result.items.now) }
         ensures most { result.units ≤ most }
     {
         if !self.here.is_over() {
-            return Front {
-                items: &[],
-                units: 0,
-            };
+            return Front::none();
         }
         self.ahead.take_groups(most)
     }
@@ -93,10 +85,7 @@ impl<'a> Reading<'a> {
         ensures most { result.units ≤ most }
     {
         if !self.here.is_over() {
-            return Front {
-                items: &[],
-                units: 0,
-            };
+            return Front::none();
         }
         self.ahead.take_blocks(most)
     }
@@ -108,11 +97,10 @@ impl<'a> Reading<'a> {
         ensures units { (1 ≤ result) × (result ≤ most) }
         ensures rest { self.new ≡ drop result self.old }
     {
-        if let Some(group) = self.take_group(most) {
-            return group.seen().units;
-        }
-        if let Some(block) = self.take_block(most) {
-            return block.seen().units;
+        if self.here.is_over() {
+            if let Some(seen) = self.ahead.pass(most) {
+                return seen.units;
+            }
         }
         match self.take(most) {
             None => most,

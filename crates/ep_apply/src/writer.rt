@@ -6,7 +6,8 @@ ghost use Rattle.ep_cs.specs.Runs.{cells};
 ghost use Rattle.ep_apply.specs.Blocks.{all_cells};
 
 use crate::block::Block;
-use crate::group::Group;
+use crate::body::Body;
+use crate::node::{Group, Node, Page};
 use crate::pile::Pile;
 use ep_attr::AttrMap;
 use ep_parts::{Parts, Seam};
@@ -69,13 +70,13 @@ fn close(alloc: Global, pile: &mut Pile, parts: &mut Parts) -> Result<(), NoMemo
 }
 
 impl Writer {
-    /// Nothing written, with room for so many groups.
-    pub fn with_room(alloc: Global, groups: usize) -> Result<Writer, NoMemory>
+    /// Nothing written, with room for so many pages.
+    pub fn with_room(alloc: Global, pages: usize) -> Result<Writer, NoMemory>
         ensures { IfOk result (λ w. w ≡ []) }
     {
         Ok(Writer {
             alloc,
-            pile: Pile::with_room(alloc, groups)?,
+            pile: Pile::with_room(alloc, pages)?,
             open: Parts::empty(alloc),
         })
     }
@@ -181,7 +182,7 @@ impl Writer {
 
     /// Adds groups that the document shares.
     fn share_groups(&mut self, groups: &[Arc<Group>]) -> Result<(), NoMemory>
-        requires { length self.old < 2 ^ 32 }
+        requires { length self.old + length (all_cells groups.now) < 2 ^ 32 }
         ensures { OnOk result (self.new ≡ self.old ++ all_cells groups.now) }
     {
         close(self.alloc, &mut self.pile, &mut self.open)?;
@@ -196,19 +197,45 @@ impl Writer {
     {
         let mut rest = groups;
         'pieces: while let [group, later @ ..] = rest {
-            if !self.pile.has_room(group.blocks().len()) {
+            if !self.pile.has_room(group.items().len()) {
                 return self.share_groups(rest);
             }
-            self.push_blocks(group.blocks())?;
+            self.push_blocks(group.items())?;
             rest = later;
         }
         Ok(())
     }
 
-    /// What is written, in groups.
-    pub fn finish(self) -> Result<Vec<Arc<Group>>, NoMemory>
+    /// Adds pages that the document shares.
+    fn share_pages(&mut self, pages: &[Arc<Page>]) -> Result<(), NoMemory>
+        requires { length self.old < 2 ^ 32 }
+        ensures { OnOk result (self.new ≡ self.old ++ all_cells pages.now) }
+    {
+        close(self.alloc, &mut self.pile, &mut self.open)?;
+        self.pile.share_pages(pages)
+    }
+
+    /// Adds pages: of the first ones the groups, as long as these are not too many for one page with those before; the
+    /// others are shared.
+    pub fn push_pages(&mut self, pages: &[Arc<Page>]) -> Result<(), NoMemory>
+        requires { length self.old + length (all_cells pages.now) < 2 ^ 32 }
+        ensures { OnOk result (self.new ≡ self.old ++ all_cells pages.now) }
+    {
+        let mut rest = pages;
+        'pieces: while let [page, later @ ..] = rest {
+            if !self.pile.has_page_room(page.items().len()) {
+                return self.share_pages(rest);
+            }
+            self.push_groups(page.items())?;
+            rest = later;
+        }
+        Ok(())
+    }
+
+    /// What is written.
+    pub fn finish(self) -> Result<Body, NoMemory>
         requires { length self < 2 ^ 32 }
-        ensures { IfOk result (λ groups. all_cells groups.items ≡ self) }
+        ensures { IfOk result (λ body. body ≡ self) }
     {
         let mut pile = self.pile;
         let mut open = self.open;
