@@ -1,4 +1,4 @@
-use Rattle.std.proofs.Common.{sym, ◌∙◌, arith}
+use Rattle.std.proofs.Common.{sym, arith}
 use Rattle.ep_edge.proofs.Neighbours.{rises_on, rises_whole}
 use Rattle.ep_edge.proofs.ordered.are_rising.Goals as goal
 
