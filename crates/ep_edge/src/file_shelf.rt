@@ -241,9 +241,9 @@ mod tests {
 
     #[test]
     fn keeps_what_was_written(rt: HostRuntime) -> Result<(), Fail> {
-        fresh_folder(&rt, "kept")?;
+        fresh_folder(&rt, "kept.shelf")?;
         let id = pad(rt.alloc(), "pad")?;
-        let mut shelf = FileShelf::open_at(&rt, "kept")?;
+        let mut shelf = FileShelf::open_at(&rt, "kept.shelf")?;
         let mut disk = shelf.open(&id)?;
         append(&mut disk, b"abcdef")?;
         disk.reserve(2)?;
@@ -251,7 +251,7 @@ mod tests {
         disk.write_at(1, b"XY")?;
         drop(disk);
         drop(shelf);
-        let mut again = FileShelf::open_at(&rt, "kept")?;
+        let mut again = FileShelf::open_at(&rt, "kept.shelf")?;
         let mut disk = again.open(&id)?;
         append(&mut disk, b"!")?;
         let mut read = [0; 5];
@@ -259,71 +259,71 @@ mod tests {
         assert_eq!(rt; read.as_slice(), b"aXYd!".as_slice());
         assert_eq!(rt; disk.length()?, 5);
         assert_eq!(rt; (disk.faults(), again.faults()), (0, 0));
-        Ok(())
+        Ok(fs::remove_dir_all(&rt, "kept.shelf")?)
     }
 
     #[test]
     fn names_of_pads_alone(rt: HostRuntime) -> Result<(), Fail> {
         let alloc = rt.alloc();
-        fresh_folder(&rt, "named")?;
-        let mut shelf = FileShelf::open_at(&rt, "named")?;
+        fresh_folder(&rt, "named.shelf")?;
+        let mut shelf = FileShelf::open_at(&rt, "named.shelf")?;
         assert!(rt; shelf.names()?.is_empty());
         for name in ["b", "é", "a"] {
             shelf.open(&pad(alloc, name)?)?;
         }
-        fs::write(&rt, "named/6A.pad", "")?;
-        fs::write(&rt, "named/directory.db", "")?;
+        fs::write(&rt, "named.shelf/6A.pad", "")?;
+        fs::write(&rt, "named.shelf/directory.db", "")?;
         let names = shelf.names()?;
         assert_eq!(rt; names.len(), 3);
         for (found, name) in names.iter().zip(&["a", "b", "é"]) {
             assert_eq!(rt; found.as_slice(), pad(alloc, name)?.as_slice());
         }
-        let made = fs::metadata(&rt, "named/61.pad")?;
+        let made = fs::metadata(&rt, "named.shelf/61.pad")?;
         assert_eq!(rt; made.mode() & 0o777, 0o600);
-        Ok(())
+        Ok(fs::remove_dir_all(&rt, "named.shelf")?)
     }
 
     #[test]
     fn one_server_a_folder(rt: HostRuntime) -> Result<(), Fail> {
-        fresh_folder(&rt, "locked")?;
+        fresh_folder(&rt, "locked.shelf")?;
         let id = pad(rt.alloc(), "pad")?;
-        let first = FileShelf::open_at(&rt, "locked")?;
-        let mut second = FileShelf::open_at(&rt, "locked")?;
+        let first = FileShelf::open_at(&rt, "locked.shelf")?;
+        let mut second = FileShelf::open_at(&rt, "locked.shelf")?;
         assert!(rt; matches!(second.open(&id), Err(ShelfBad::Failed)));
         assert!(rt; matches!(second.names(), Err(ShelfBad::Failed)));
         assert_eq!(rt; second.faults(), 2);
         drop(first);
-        let mut third = FileShelf::open_at(&rt, "locked")?;
+        let mut third = FileShelf::open_at(&rt, "locked.shelf")?;
         assert!(rt; third.open(&id).is_ok());
         let mut nowhere = FileShelf::open_at(&rt, "no/such/folder")?;
         assert!(rt; matches!(nowhere.open(&id), Err(ShelfBad::Failed)));
         assert_eq!(rt; nowhere.faults(), 1);
-        Ok(())
+        Ok(fs::remove_dir_all(&rt, "locked.shelf")?)
     }
 
     #[test]
     fn fails_past_the_end(rt: HostRuntime) -> Result<(), Fail> {
-        fresh_folder(&rt, "short")?;
-        let mut shelf = FileShelf::open_at(&rt, "short")?;
+        fresh_folder(&rt, "short.shelf")?;
+        let mut shelf = FileShelf::open_at(&rt, "short.shelf")?;
         let mut disk = shelf.open(&pad(rt.alloc(), "pad")?)?;
         append(&mut disk, b"abc")?;
         assert_eq!(rt; disk.read(2, &mut [0; 2]), Err(Failed));
         disk.reserve(0)?;
         assert_eq!(rt; disk.cut(u64::MAX), Err(Failed));
         assert_eq!(rt; disk.faults(), 2);
-        Ok(())
+        Ok(fs::remove_dir_all(&rt, "short.shelf")?)
     }
 
     #[test]
     fn fails_where_it_cannot_write(rt: HostRuntime) -> Result<(), Fail> {
-        fresh_folder(&rt, "read")?;
-        fs::write(&rt, "read/file", "abc")?;
-        let mut disk = FileDisk::new(File::open(&rt, "read/file")?);
+        fresh_folder(&rt, "read.shelf")?;
+        fs::write(&rt, "read.shelf/file", "abc")?;
+        let mut disk = FileDisk::new(File::open(&rt, "read.shelf/file")?);
         disk.reserve(1)?;
         assert_eq!(rt; disk.write_at(0, b"x"), Err(Failed));
         assert_eq!(rt; disk.cut(0), Err(Failed));
         assert_eq!(rt; disk.faults(), 2);
         assert_eq!(rt; disk.length()?, 3);
-        Ok(())
+        Ok(fs::remove_dir_all(&rt, "read.shelf")?)
     }
 }
