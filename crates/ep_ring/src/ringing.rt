@@ -1,0 +1,248 @@
+//! A port round the pads' port.
+
+ghost use Rattle.std.specs.Prelude.{◌≡◌};
+
+use crate::bell::Bell;
+use crate::bells::Bells;
+use ep_apply::Doc;
+use ep_cs::Change;
+use ep_link::Ear;
+use ep_outside::Limits;
+use ep_pad::{CatchUp, Committed, Fetched, PadBad, PadPort, PadStatus, PassBad, Piece, Welcome};
+use ep_units::{Grant, NoMemory, PadId, Session, Units};
+use std::alloc::Global;
+use std::sync::{Arc, Mutex, Wait};
+
+/// A pass of the port inside, and the bell of its pad.
+#[derive(Drop)]
+pub struct RingPass<A: Drop, E: Ear> {
+    pub pass: A,
+    bell: Arc<Bell<E>>,
+}
+
+/// The port of one session: the pads that all share, all bells, and the ear of its link until that hangs on a bell.
+#[derive(Drop)]
+pub struct Ringing<P: Drop, E: Ear> {
+    pub pads: Arc<P>,
+    bells: Arc<Bells<E>>,
+    ear: Mutex<Option<E>>,
+}
+
+impl<P: Drop, E: Ear> Ringing<P, E> {
+    /// Whoever has no ear is woken by nobody.
+    pub fn new(pads: Arc<P>, bells: Arc<Bells<E>>, ear: Option<E>) -> Ringing<P, E>
+        ensures pads { result.pads ≡ pads }
+    {
+        Ringing {
+            pads,
+            bells,
+            ear: Mutex::new(ear),
+        }
+    }
+
+    // The ear hangs on the bell from now on. Where there is no memory for it the session is woken by nobody.
+    fn listen<R: Wait>(&self, rt: &R, bell: &Bell<E>) {
+        let ear = self.ear.lock(rt).take();
+        if let Some(ear) = ear {
+            let _hangs = bell.hang(rt, ear);
+        }
+    }
+}
+
+impl<P: PadPort + Drop, E: Ear> PadPort for Ringing<P, E> {
+    ghost use Rattle.std.specs.Arc.{arc_value};
+
+    type Store = P::Store;
+
+    type Hall = P::Hall;
+
+    type Pass = RingPass<P::Pass, E>;
+
+    ghost limits_of = { λ port. P.limits_of (arc_value port.pads) };
+
+    ghost is_hall = { λ port hall. P.is_hall (arc_value port.pads) hall };
+
+    ghost hall_known = { P.hall_known };
+
+    ghost is_register = { P.is_register };
+
+    ghost is_of = { λ port pass. P.is_of (arc_value port.pads) pass.pass };
+
+    ghost name_of = { λ pass. P.name_of pass.pass };
+
+    ghost cell_of = { λ pass. P.cell_of pass.pass };
+
+    ghost known = { λ pass. P.known pass.pass };
+
+    fn limits(&self) -> Limits {
+        self.pads.limits()
+    }
+
+    fn hall<R: Wait>(&self, rt: &R) -> P::Hall {
+        self.pads.hall(rt)
+    }
+
+    fn pass<R: Wait>(
+        &self,
+        rt: &R,
+        hall: &mut P::Hall,
+        pad: &PadId,
+    ) -> Result<RingPass<P::Pass, E>, PassBad<PadBad>> {
+        let Ok(bell) = self.bells.of(rt, pad) else {
+            return Err(PassBad::NoMemory);
+        };
+        match self.pads.pass(rt, hall, pad) {
+            Ok(pass) => Ok(RingPass { pass, bell }),
+            Err(bad) => Err(bad),
+        }
+    }
+
+    fn meet(&self, one: &mut RingPass<P::Pass, E>, other: &mut RingPass<P::Pass, E>) {
+        self.pads.meet(&mut one.pass, &mut other.pass);
+    }
+
+    fn login<R: Wait>(
+        &self,
+        rt: &R,
+        pass: &mut RingPass<P::Pass, E>,
+        grant: &Grant,
+        now: u64,
+    ) -> Result<Welcome, PadBad> {
+        let reply = self.pads.login(rt, &mut pass.pass, grant, now);
+        if reply.is_ok() {
+            self.listen(rt, &pass.bell);
+        }
+        reply
+    }
+
+    fn resume<R: Wait>(
+        &self,
+        rt: &R,
+        pass: &mut RingPass<P::Pass, E>,
+        grant: &Grant,
+        rev: u64,
+        birth: Option<u64>,
+        author: Option<&Units>,
+        now: u64,
+    ) -> Result<CatchUp, PadBad> {
+        let reply = self
+            .pads
+            .resume(rt, &mut pass.pass, grant, rev, birth, author, now);
+        if reply.is_ok() {
+            self.listen(rt, &pass.bell);
+        }
+        reply
+    }
+
+    fn accept<R: Wait>(
+        &self,
+        rt: &R,
+        pass: &mut RingPass<P::Pass, E>,
+        session: Session,
+        base: u64,
+        change: Change,
+        now: u64,
+    ) -> Result<Committed, PadBad> {
+        let reply = self
+            .pads
+            .accept(rt, &mut pass.pass, session, base, change, now);
+        if reply.is_ok() {
+            pass.bell.ring(rt);
+        }
+        reply
+    }
+
+    fn fetch<R: Wait>(
+        &self,
+        rt: &R,
+        pass: &mut RingPass<P::Pass, E>,
+        session: Session,
+        from: u64,
+        told: u64,
+    ) -> Result<Fetched, PadBad> {
+        self.pads.fetch(rt, &mut pass.pass, session, from, told)
+    }
+
+    fn leave<R: Wait>(
+        &self,
+        rt: &R,
+        pass: &mut RingPass<P::Pass, E>,
+        session: Session,
+    ) -> Result<(), PadBad> {
+        self.pads.leave(rt, &mut pass.pass, session)
+    }
+
+    fn create<R: Wait>(
+        &self,
+        rt: &R,
+        pass: &mut RingPass<P::Pass, E>,
+        text: &Units,
+        now: u64,
+    ) -> Result<u64, PadBad> {
+        self.pads.create(rt, &mut pass.pass, text, now)
+    }
+
+    fn set_text<R: Wait>(
+        &self,
+        rt: &R,
+        pass: &mut RingPass<P::Pass, E>,
+        text: &Units,
+        now: u64,
+    ) -> Result<Committed, PadBad> {
+        let reply = self.pads.set_text(rt, &mut pass.pass, text, now);
+        if reply.is_ok() {
+            pass.bell.ring(rt);
+        }
+        reply
+    }
+
+    fn delete<R: Wait>(
+        &self,
+        rt: &R,
+        pass: &mut RingPass<P::Pass, E>,
+        now: u64,
+    ) -> Result<(), PadBad> {
+        let reply = self.pads.delete(rt, &mut pass.pass, now);
+        if reply.is_ok() {
+            pass.bell.ring(rt);
+        }
+        reply
+    }
+
+    fn set_public<R: Wait>(
+        &self,
+        rt: &R,
+        pass: &mut RingPass<P::Pass, E>,
+        on: bool,
+    ) -> Result<(), PadBad> {
+        self.pads.set_public(rt, &mut pass.pass, on)
+    }
+
+    fn text<R: Wait>(
+        &self,
+        rt: &R,
+        pass: &mut RingPass<P::Pass, E>,
+        rev: Option<u64>,
+    ) -> Result<Doc, PadBad> {
+        self.pads.text(rt, &mut pass.pass, rev)
+    }
+
+    fn history<R: Wait>(
+        &self,
+        rt: &R,
+        pass: &mut RingPass<P::Pass, E>,
+        session: Session,
+        start: u64,
+        count: u64,
+    ) -> Result<Piece, PadBad> {
+        self.pads.history(rt, &mut pass.pass, session, start, count)
+    }
+
+    fn status<R: Wait>(
+        &self,
+        rt: &R,
+        pass: &mut RingPass<P::Pass, E>,
+    ) -> Result<PadStatus, PadBad> {
+        self.pads.status(rt, &mut pass.pass)
+    }
+}
