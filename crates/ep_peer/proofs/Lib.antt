@@ -1,0 +1,5 @@
+pub mod Parting
+pub mod Receiving
+pub mod Cutting
+pub mod Steps
+pub mod Walking
