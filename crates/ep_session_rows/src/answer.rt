@@ -1,0 +1,182 @@
+//! The reply to a line.
+
+use crate::asked::{array, draws, pad, text, whole};
+use crate::called::{MemHouse, Ports};
+use crate::played::Played;
+use crate::stop::Stop;
+use crate::told::told;
+use ep_disk_mem::{MemClock, MemDraws, MemFile, MemShelf};
+use ep_groups::DirPort;
+use ep_keep::MapKeeper;
+use ep_link::{Coming, MemLink};
+use ep_outside::{Limits, Text};
+use ep_pad::PadPort;
+use ep_session::serve_session;
+use serde_json::Value;
+use serde_json::error::Category;
+use std::alloc::{AllocError, Global};
+use std::collections::VecDeque;
+use std::sync::Wait;
+
+fn limit(request: &Value, name: &str, usual: u64) -> u64 {
+    match request.get("limits") {
+        Some(limits) => match limits.get(name) {
+            Some(limit) => limit.as_u64().unwrap_or(usual),
+            None => usual,
+        },
+        None => usual,
+    }
+}
+
+fn limits(request: &Value) -> Limits {
+    Limits {
+        live: limit(request, "live", 1024),
+        logins: limit(request, "logins", 1_000_000),
+        units: limit(request, "units", 1_000_000),
+        journal: limit(request, "journal", 1_000_000_000),
+        pads: limit(request, "pads", 1024),
+    }
+}
+
+fn nibble(byte: u8) -> Result<u8, Stop>
+    ensures { IfOk result (λ n. n < 16) }
+{
+    match byte {
+        b'0'..=b'9' => Ok(byte - b'0'),
+        b'a'..=b'f' => Ok(byte - b'a' + 10),
+        _ => Err(Stop::Wrong),
+    }
+}
+
+fn bytes(alloc: Global, hex: &str) -> Result<Vec<u8>, Stop> {
+    let mut bytes = Vec::new(alloc);
+    let mut high = None;
+    for digit in hex.as_bytes() {
+        let digit = nibble(*digit)?;
+        match high {
+            None => high = Some(digit),
+            Some(first) => {
+                bytes.push(first % 16 * 16 + digit)?;
+                high = None;
+            }
+        }
+    }
+    Ok(bytes)
+}
+
+fn files(alloc: Global, request: &Value) -> Result<Vec<MemFile>, Stop> {
+    let mut files = Vec::new(alloc);
+    let Some(named) = request.get("files") else {
+        return Ok(files);
+    };
+    let named = named.as_object().ok_or(Stop::Wrong)?;
+    for (name, hex) in named {
+        files.push(MemFile {
+            name: pad(alloc, name.as_str())?,
+            bytes: bytes(alloc, hex.as_str().ok_or(Stop::Wrong)?)?,
+            fails: Vec::new(alloc),
+        })?;
+    }
+    Ok(files)
+}
+
+fn ports(alloc: Global, request: &Value) -> Result<Ports, Stop> {
+    let shelf = MemShelf::new(alloc, files(alloc, request)?, Vec::new(alloc))?;
+    let keeper = MapKeeper::new(alloc, Vec::new(alloc));
+    Ok(Ports {
+        alloc,
+        house: MemHouse::open(alloc, shelf, keeper, limits(request))?,
+    })
+}
+
+fn coming(alloc: Global, step: &Value) -> Result<Coming, Stop> {
+    if step.get("message").is_some() {
+        let text = Text::from_str(alloc, text(step, "message")?)?;
+        Ok(Coming::Message(text))
+    } else if step.get("binary").is_some() {
+        Ok(Coming::Binary)
+    } else if step.get("nothing").is_some() {
+        Ok(Coming::Nothing)
+    } else if step.get("closed").is_some() {
+        Ok(Coming::Closed)
+    } else {
+        Err(Stop::Wrong)
+    }
+}
+
+/// A link for the receives among what is to come.
+fn link(alloc: Global, steps: &[Value]) -> Result<MemLink, Stop> {
+    let mut all = VecDeque::new(alloc);
+    for step in steps {
+        if step.get("call").is_none() {
+            all.push_back(coming(alloc, step)?)?;
+        }
+    }
+    Ok(MemLink::new(alloc, all, Vec::new(alloc)))
+}
+
+/// What a session on these ports comes to.
+fn served<R: Wait, P: PadPort, G: DirPort>(
+    rt: &R,
+    alloc: Global,
+    pads: &P,
+    dir: &G,
+    link: &mut Played<'_>,
+    request: &Value,
+) -> Result<Value, Stop> {
+    let clock = MemClock::new(vec![in alloc; whole(request, "now")?]?);
+    let numbers = draws(alloc, request)?;
+    let mut draws = MemDraws::new(&numbers);
+    let report = serve_session(rt, alloc, pads, dir, link, &clock, &mut draws);
+    told(alloc, &report, link.link.passed())
+}
+
+// The same with the house's directory.
+fn served_by<R: Wait, P: PadPort>(
+    rt: &R,
+    ports: &Ports,
+    pads: &P,
+    link: &mut Played<'_>,
+    request: &Value,
+) -> Result<Value, Stop> {
+    served(rt, ports.alloc, pads, &ports.house, link, request)
+}
+
+fn reply<R: Wait>(rt: &R, alloc: Global, request: &Value) -> Result<Value, Stop> {
+    let ports = ports(alloc, request)?;
+    for call in array(request, "before")? {
+        ports.call(rt, call)?;
+    }
+    let steps = array(request, "link")?;
+    let mut link = Played {
+        link: link(alloc, steps)?,
+        ports: &ports,
+        steps,
+    };
+    served_by(rt, &ports, &ports.house, &mut link, request)
+}
+
+fn request(alloc: Global, line: &str) -> Result<Value, Stop> {
+    match Value::from_str(alloc, line) {
+        Ok(request) => Ok(request),
+        Err(error) if error.classify() == Category::Memory => Err(Stop::NoMemory),
+        Err(_) => Err(Stop::Wrong),
+    }
+}
+
+fn answered<R: Wait>(rt: &R, alloc: Global, line: &str) -> Result<String, Stop> {
+    let request = request(alloc, line)?;
+    let reply = reply(rt, alloc, &request)?;
+    Ok(reply.to_string(alloc)?)
+}
+
+/// The reply to a line. A line that is no request is told as wrong.
+pub fn answer<R: Wait>(rt: &R, alloc: Global, line: &str) -> Result<String, AllocError> {
+    match answered(rt, alloc, line) {
+        Ok(reply) => Ok(reply),
+        Err(Stop::Wrong) => String::from_str(alloc, "{\"wrong\":\"request\"}"),
+        Err(Stop::NoMemory) => Err(AllocError),
+    }
+}
+
+ghost use Rattle.std.specs.Prelude.{◌<◌, IfOk};
