@@ -24,7 +24,7 @@ returns-clause-answer c = λ p h.
     let it = c.head-head.ensures.head p is.revs (ap (λ (l : Limits). l.units) h.keeps.limits) in
     let none = not-refused Step _ c.in_ok-step.step (c.in_ok-step.ensures.refused p it (present-of _ _ p h.keeps c.in-There.is)) in
     let made : c.in_ok-step.step ≡ step_of (set_head p c.args.text.now) (head_doc (newest p)) =
-        c.in_ok-step.ensures.made ∙ (λ i. step_of (set_edit (clean c.args.text.now) (it.doc i)) (it.doc i)) in
+    c.in_ok-step.ensures.made ∙ (λ i. step_of (set_edit (clean c.args.text.now) (it.doc i)) (it.doc i)) in
     let nobody = ap (λ (a : Text). by_of a c.args.now) c.new-nobody.ensures in
     let edit = ap (λ (x : Step). x.edit.change.edit) made in
     let doc = head-doc-of c.reserve.new.self (newest p) is.revs in
