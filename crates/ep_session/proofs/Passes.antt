@@ -15,6 +15,7 @@ use Rattle.ep_outside.specs.Disk.{Contents}
 use Rattle.ep_history.specs.declared.pad_bad.PadBad.{PadBad}
 use Rattle.ep_history.specs.declared.pad_bad.PadBad.TheVariants as bad
 use Rattle.ep_pad.specs.Asking.{Asks, AsksOrLacks}
+use Rattle.ep_pad.specs.Histories.{IsLegalWhere}
 use Rattle.ep_pad.specs.Halls.{Answer, Notes, NotesOrNone}
 use Rattle.ep_pad.specs.declared.entries.PadEntry.{PadEntry}
 use Rattle.ep_pad.specs.declared.entries.PadReply.{PadReply}
@@ -90,3 +91,9 @@ desk_legal tells u v e kind r (inr (short, same)) legal = subst (λ (w : Known D
 -- a call of a hall was made
 pub noted : {B : Type 0} (Legal : List (List ℕ × Answer B) → Type 0) (u v : Known (List ℕ) (Answer B)) (name : List ℕ) (r : Answer B) → Notes Legal u name r v → own v ≡ own u ++ (name, r) ∷ []
 noted Legal u v name r n = one_more u v name r n.number n.own
+
+-- a history that was legal is legal behind a call, or where memory ran out before it
+pub asked_legal : {D A : Type 0} (told_by : D → Option Contents) (v : Known PadEntry PadReply) (e : PadEntry) (kind : Result A PadBad → PadReply) (r : Result A PadBad) (w : Known PadEntry PadReply)
+    → AsksOrLacks told_by v e kind r w → IsLegalWhere told_by (pairs v.seen) → IsLegalWhere told_by (pairs w.seen)
+asked_legal told_by v e kind r w (inl a) h = a.legal
+asked_legal told_by v e kind r w (inr x) h = subst (λ (u : Known PadEntry PadReply). IsLegalWhere told_by (pairs u.seen)) (sym x.1) h

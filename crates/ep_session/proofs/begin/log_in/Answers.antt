@@ -4,7 +4,7 @@ use Rattle.ep_pad.specs.declared.entries.PadReply.TheVariants as reply
 use Rattle.ep_message.specs.declared.server.ServerMsg.TheVariants as msg
 use Rattle.ep_session.specs.Says.{SendsAs}
 use Rattle.ep_session.specs.Session.{Called, Login, Fetch, Hear, Say, Then, welcomed, welcome_place, vars}
-use Rattle.ep_session.proofs.Passes.{answered}
+use Rattle.ep_session.proofs.Passes.{answered, asked_legal}
 use Rattle.ep_session.proofs.Running.{err_is, called_say, called_short, asked_failed}
 use Rattle.ep_session.proofs.begin.log_in.Goals as goal
 
@@ -33,3 +33,6 @@ returns-clause-done g c =
     (Login grant) (entry.Login grant c.now_ms.result) (reply.Welcome c.login.result) (vars grant w) c.say.result (Fetch ∷ Hear ∷ [])
     (c.now_ms.result, c.login.result, refl, sym (ap (welcomed at grant) c.in_ok-welcome.was)) (answered g.P.Store.Disk.told _ _ _ (λ r. reply.Welcome r) c.login.result w c.login.ensures.asks c.in_ok-welcome.was) (c.now_ms.ensures, tt)
     (subst (λ asked. SendsAs (msg.Vars asked w.author w.read_only w.session w.birth w.rev w.doc w.time) (g.L.Link.traffic c.args.link.now) (g.L.Link.traffic c.say.new.link) c.say.result) c.in_ok-copy.ensures c.say.ensures.sent)
+
+pub returns-clause-legal : goal.returns-clause-legal
+returns-clause-legal g c = asked_legal g.P.Store.Disk.told _ _ (λ r. reply.Welcome r) _ _ c.login.ensures.asks
