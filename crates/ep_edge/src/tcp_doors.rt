@@ -209,35 +209,20 @@ impl<R: Net + RandomSource + Clock + Copy + Drop> Doors for TcpDoors<R> {
             Some(listening) => listening.next(),
             None => Err(Error::from(ErrorKind::NotConnected)),
         };
-        match came {
-            Ok(
-                Some(
-                    Caller {
-                        door: Door::Pads,
-                        stream,
-                    },
-                ),
-            ) => {
-                self.given = self.given.saturating_add(1);
-                Came::Pad(WsLink::taken(self.rt, self.alloc, stream))
-            }
-            Ok(
-                Some(
-                    Caller {
-                        door: Door::Api,
-                        stream,
-                    },
-                ),
-            ) => {
-                self.given = self.given.saturating_add(1);
-                Came::Api(ApiStream::taken(&self.rt, self.alloc, self.rt, stream))
-            }
-            Ok(None) => Came::Nothing,
-            Err(error) if error.kind() == ErrorKind::OutOfMemory => Came::NoMemory,
+        let caller = match came {
+            Ok(Some(caller)) => caller,
+            Ok(None) => return Came::Nothing,
+            Err(error) if error.kind() == ErrorKind::OutOfMemory => return Came::NoMemory,
             Err(_) => {
                 self.faults = self.faults.saturating_add(1);
-                Came::Failed
+                return Came::Failed;
             }
+        };
+        self.given = self.given.saturating_add(1);
+        let Caller { door, stream } = caller;
+        match door {
+            Door::Pads => Came::Pad(WsLink::taken(self.rt, self.alloc, stream)),
+            Door::Api => Came::Api(ApiStream::taken(&self.rt, self.alloc, self.rt, stream)),
         }
     }
 }
