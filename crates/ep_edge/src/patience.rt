@@ -1,9 +1,10 @@
-//! How long a link waits for its peer.
+//! How long a peer is waited for.
 
 use crate::sys_clock::whole_ms;
 use std::time::{Clock, Instant};
 
-/// Ten seconds, in which a handshake has to be made and a message has to be taken, in milliseconds.
+/// Ten seconds, in which a handshake has to be made, a message has to be taken, and a caller of the API has to be done,
+/// in milliseconds.
 const PATIENCE_MS: u64 = 10_000;
 
 /// Turns of a wait, which ends by the clock long before.

@@ -2,11 +2,11 @@
 
 use crate::greeting::Socket;
 use crate::patience::{MOST_TURNS, Patience};
+use crate::waiting::{is_gone, would_block};
 use crate::watch::Watch;
 use ep_link::{LinkBad, LinkGot};
 use ep_outside::Text;
 use std::alloc::Global;
-use std::io::ErrorKind;
 use std::random::RandomSource;
 use std::time::Clock;
 use tungstenite::{Error, Message};
@@ -79,7 +79,7 @@ impl<R: RandomSource + Drop> Talk<R> {
             match sent {
                 Ok(()) => return Ok(()),
                 Err(Error::OutOfMemory) => return Err(LinkBad::NoMemory),
-                Err(error) if would_block(&error) => {}
+                Err(Error::Io(error)) if would_block(&error) => {}
                 Err(_) => return Err(LinkBad::Failed),
             }
             let Some(left) = patience.left_ms(clock) else {
@@ -94,26 +94,14 @@ impl<R: RandomSource + Drop> Talk<R> {
     }
 }
 
-fn would_block(error: &Error) -> bool {
-    match error {
-        Error::Io(error) => error.kind() == ErrorKind::WouldBlock,
-        _ => false,
-    }
-}
-
 // What an error means for a receive; none where there is nothing yet.
 fn got_of_error(error: Error) -> Option<LinkGot> {
     match error {
         Error::ConnectionClosed | Error::AlreadyClosed => Some(LinkGot::Closed),
         // The peer left without a word.
         Error::Protocol(ProtocolError::ResetWithoutClosingHandshake) => Some(LinkGot::Closed),
-        Error::Io(error) => match error.kind() {
-            ErrorKind::WouldBlock => None,
-            ErrorKind::ConnectionReset | ErrorKind::ConnectionAborted | ErrorKind::BrokenPipe => {
-                Some(LinkGot::Closed)
-            }
-            _ => Some(LinkGot::Failed),
-        },
+        Error::Io(error) if would_block(&error) => None,
+        Error::Io(error) if is_gone(&error) => Some(LinkGot::Closed),
         Error::OutOfMemory => Some(LinkGot::NoMemory),
         _ => Some(LinkGot::Failed),
     }

@@ -56,7 +56,7 @@ fn is_answer(bytes: &[u8]) -> bool {
     }
 }
 
-fn is_text(got: &LinkGot, text: &str) -> bool {
+pub fn is_text(got: &LinkGot, text: &str) -> bool {
     match got {
         LinkGot::Message(message) => message.as_str() == text,
         _ => false,
@@ -116,7 +116,10 @@ fn tells_that_a_caller_is_gone(rt: HostRuntime) -> Result<(), Fail> {
 }
 
 // Sends each message back until the other side is gone, and answers how many there were.
-fn echo<R: Net + RandomSource + Clock + Copy + Drop + Wait>(rt: &R, mut link: WsLink<R>) -> u32 {
+pub fn echo<R: Net + RandomSource + Clock + Copy + Drop + Wait>(
+    rt: &R,
+    mut link: WsLink<R>,
+) -> u32 {
     let mut messages = 0u32;
     for _ in 0..2000u32 {
         match link.recv(rt) {
@@ -134,7 +137,7 @@ fn echo<R: Net + RandomSource + Clock + Copy + Drop + Wait>(rt: &R, mut link: Ws
 }
 
 // What comes in 20 seconds.
-fn next_got<R: Net + RandomSource + Clock + Copy + Drop + Wait>(
+pub fn next_got<R: Net + RandomSource + Clock + Copy + Drop + Wait>(
     rt: &R,
     link: &mut WsLink<R>,
 ) -> LinkGot {

@@ -1,14 +1,14 @@
 //! Waiting for a socket, or for a ring.
 
+use crate::waiting::Waiting;
 use ep_link::Ear;
 use mio::net::TcpStream;
-use mio::{Events, Interest, Poll, Token, Waker};
+use mio::{Interest, Token, Waker};
 use std::alloc::Global;
 use std::io;
 use std::net::Net;
 use std::sync::Arc;
 use std::sync::atomic::{AtomicBool, Ordering};
-use std::time::Duration;
 
 const SOCKET: Token = Token(0);
 
@@ -55,30 +55,23 @@ impl Drop for Hearing {
 }
 
 /// Waits until a socket has something to read or room to write, or until its bell is rung.
-///
-/// What the socket reported once it reports again only after a read or a write answered that it would block: so try
-/// first, and then wait.
 #[derive(Drop)]
 pub struct Watch {
-    poll: Poll,
-    events: Events<Global>,
+    waiting: Waiting,
     hearing: Hearing,
 }
 
 impl Watch {
     pub fn over<N: Net>(net: &N, alloc: Global, stream: &mut TcpStream) -> io::Result<Watch> {
-        let poll = Poll::new(net)?;
-        let events = Events::with_capacity(alloc, 2)?;
-        let interests = Interest::READABLE | Interest::WRITABLE;
-        poll.registry().register(stream, SOCKET, interests)?;
+        let waiting = Waiting::new(net, alloc)?;
+        waiting.add(stream, SOCKET, Interest::READABLE | Interest::WRITABLE)?;
         let bell = Bell {
-            waker: Waker::new(poll.registry(), BELL)?,
+            waker: Waker::new(waiting.registry(), BELL)?,
             is_rung: AtomicBool::new(false),
             is_gone: AtomicBool::new(false),
         };
         Ok(Watch {
-            poll,
-            events,
+            waiting,
             hearing: Hearing {
                 bell: Arc::new(alloc, bell)?,
             },
@@ -87,8 +80,7 @@ impl Watch {
 
     /// Waits for the socket, so many milliseconds at most. A ring may end the wait, and is still to be heard.
     pub fn wait_for_socket(&mut self, ms: u64) -> io::Result<()> {
-        self.poll
-            .poll(&mut self.events, Some(Duration::from_millis(ms)))
+        self.waiting.wait(ms)
     }
 
     /// Waits for the socket or a ring, so many milliseconds at most. A ring since the last such wait ends it at once.
