@@ -3,7 +3,8 @@
 
 sessions.py FILE COMMAND..: FILE has a JSON object a line. COMMAND is crates/ep_session_rows/out/ep_session_rows, or what
 runs it. What a session sent, how it ended and the numbers of its report are compared with the members of these names of its
-line; each other one is printed, and the exit status is 1 where there is one.
+line, and how the pad asked about stands where its line tells it; each other one is printed, and the exit status is 1 where
+there is one.
 """
 
 import json
@@ -11,6 +12,7 @@ import subprocess
 import sys
 
 MEMBERS = ("cursor", "end", "sent", "session", "start", "taken")
+STANDING = ("head", "live")
 
 
 def main():
@@ -24,6 +26,7 @@ def main():
     others = 0
     for number, (case, reply) in enumerate(zip(cases, replies), 1):
         wanted = {name: case[name] for name in MEMBERS}
+        wanted.update((name, case[name]) for name in STANDING if name in case)
         if json.loads(reply) != wanted:
             others += 1
             print(f"line {number}: {case.get('title', '')}")

@@ -1,16 +1,17 @@
 //! Doors at which callers come.
 
-ghost use Rattle.std.specs.Prelude.{◌≡◌, ℕ, true};
+ghost use Rattle.std.specs.Prelude.{◌≡◌, ℕ, true, IfOk, IsErrOf};
 ghost use Rattle.ep_outside.specs.Outside.{HasCause};
 ghost use Rattle.ep_outside.specs.Planned.{Follows};
 ghost use Rattle.ep_doors.specs.Coming.{IfApi, IfPad, given_after};
 
 use crate::came::Came;
-use ep_link::Link;
+use ep_link::{Link, LinkBad};
 use ep_outside::{Device, Sink, Source};
 use std::sync::Wait;
 
-/// Two doors: at one come callers of pads, at the other callers of the API. Accepting may wait a while.
+/// Two doors: at one come callers of pads, at the other callers of the API. Accepting may wait a while. By the way out one
+/// calls at a server's door oneself.
 pub trait Doors: Device {
     type Pad: Link;
 
@@ -33,4 +34,11 @@ pub trait Doors: Device {
         ensures plan { Follows (Self.plan self.old) (Self.plan self.new) (result ≡ Came.Failed) }
         ensures pad { IfPad result (λ p. (Self.Pad.failures p ≡ 0) × (Self.is_steady self.old ≡ true → Self.Pad.is_steady p ≡ true)) }
         ensures api { IfApi result (λ a. (Self.Api.failures a ≡ 0) × (Self.is_steady self.old ≡ true → Self.Api.is_steady a ≡ true)) };
+
+    /// A link of one's own to a server, which has not failed yet. One that is refused is `Failed`.
+    fn connect<R: Wait>(&mut self, rt: &R) -> Result<Self::Pad, LinkBad>
+        ensures given { count self.new ≡ count self.old }
+        ensures cause { HasCause (Self.failures self.old) (Self.failures self.new) (Self.is_steady self.old) (Self.is_steady self.new) (IsErrOf result LinkBad.Failed) }
+        ensures plan { Follows (Self.plan self.old) (Self.plan self.new) (IsErrOf result LinkBad.Failed) }
+        ensures link { IfOk result (λ p. (Self.Pad.failures p ≡ 0) × (Self.is_steady self.old ≡ true → Self.Pad.is_steady p ≡ true)) };
 }

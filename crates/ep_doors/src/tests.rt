@@ -9,7 +9,7 @@ use crate::serving::{Host, Served, serve};
 use crate::spawner::{Job, Spawner};
 use crate::thread_spawner::{ThreadSpawner, start_all};
 use crossbeam_channel::{Receiver, Sender, unbounded};
-use ep_link::MemLink;
+use ep_link::{LinkBad, MemLink};
 use ep_outside::{Device, Failed, Got, Sink, Source};
 use ep_units::NoMemory;
 use std::alloc::Global;
@@ -145,6 +145,10 @@ impl Doors for Listed {
                 Came::Api(Silent)
             }
         }
+    }
+
+    fn connect<R: Wait>(&mut self, _rt: &R) -> Result<MemLink, LinkBad> {
+        Err(LinkBad::NoMemory)
     }
 }
 

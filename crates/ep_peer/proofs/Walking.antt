@@ -13,7 +13,7 @@ use Rattle.ep_peer.specs.declared.bad.PeerBad.{PeerBad}
 use Rattle.ep_peer.specs.declared.writer.Written.{Written}
 use Rattle.ep_peer.proofs.Steps.{EndsBy, GoesBy, IsOn, StepTo, awaits, client, due, steps}
 
-not_both : (s : Stand) (r : Result Written PeerBad) → Goes s ≡ Ends r → ⊥
+pub not_both : (s : Stand) (r : Result Written PeerBad) → Goes s ≡ Ends r → ⊥
 not_both s r h = search rules
 
 stand_of : Outcome → Stand → Stand
@@ -64,7 +64,7 @@ sends s (did ∷ log) out (next, does, r) = sends_next s did log out next (steps
 -- ---- what is waited for was sent, and not committed
 
 -- a walk goes to where its rest begins
-split_at : (from : Outcome) (a b : List Did) (out : Outcome) → Runs from (a ++ b) out → (mid : Outcome) × Runs from a mid × Runs mid b out
+pub split_at : (from : Outcome) (a b : List Did) (out : Outcome) → Runs from (a ++ b) out → (mid : Outcome) × Runs from a mid × Runs mid b out
 split_at from [] b out r = (from, refl, r)
 split_at (Goes s) (did ∷ a) b out (next, does, r) = let w = split_at next a b out r in (w.0, (next, does, w.1), w.2)
 split_at (Ends e) (did ∷ a) b out r = absurd r

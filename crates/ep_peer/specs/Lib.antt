@@ -4,3 +4,4 @@ pub mod Writer
 pub mod Parts
 pub mod Writes
 pub mod Output
+pub mod Altered

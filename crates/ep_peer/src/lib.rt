@@ -14,7 +14,11 @@ mod submit;
 mod writer;
 
 pub use bad::{PeerBad, Reason};
-pub use laws::{ends_when_committed, reads_when_committed, sends_its_lines, sends_when_committed};
+pub use laws::{
+    alters_where_it_says_something, answers_each_line, asks_with_nothing_of_its_own,
+    ends_when_committed, reads_when_committed, sends_its_lines, sends_what_its_lines_alter,
+    sends_when_committed,
+};
 pub use writer::{Written, write_session};
 
 #[cfg(test)]

@@ -117,17 +117,22 @@ fn writes_beside_another(rt: HostRuntime) -> Result<(), Fail> {
     Ok(())
 }
 
-/// A commit of the revision that was heard last says that the line has become nothing.
+/// A line to an empty pad; and one that has become nothing, which a commit of the revision that was heard last says.
 #[test]
-fn hears_that_a_line_became_nothing(rt: HostRuntime) -> Result<(), Fail> {
+fn ends_with_what_it_sees(rt: HostRuntime) -> Result<(), Fail> {
     let alloc = rt.alloc();
-    let mut link = link(alloc, &[HI, DROPPED, COMMIT_1], &[])?;
-    match write(&rt, alloc, &mut link, "delete 0 2", &[])? {
-        Ok(written) => {
-            assert_eq!(rt; written.rev, 1);
-            assert_eq!(rt; written.text.to_text_lossy(alloc)?.as_str(), "\n");
+    for (texts, script, wanted) in [
+        ([EMPTY, COMMIT_1].as_slice(), "insert 0 hi", "hi\n"),
+        (&[HI, DROPPED, COMMIT_1], "delete 0 2", "\n"),
+    ] {
+        let mut link = link(alloc, texts, &[])?;
+        match write(&rt, alloc, &mut link, script, &[])? {
+            Ok(written) => {
+                assert_eq!(rt; written.rev, 1, "at {script}");
+                assert_eq!(rt; written.text.to_text_lossy(alloc)?.as_str(), wanted);
+            }
+            Err(_) => return Err(Fail::new("nothing was written")),
         }
-        Err(_) => return Err(Fail::new("nothing was written")),
     }
     Ok(())
 }

@@ -1,7 +1,7 @@
 //! Lines of output: what is printed of what is shown.
 //!
-//! The crates above may rest on the definition of a printed line in `specs/`, which `print_shown` meets exactly. What is
-//! shown at which event is not of this crate.
+//! The crates above may rest on the definition of a printed line in `specs/`, which `print_shown` meets exactly, and on that
+//! of a text in quotes. What is shown at which event is not of this crate.
 #![tactic(auto)]
 
 mod marks;
@@ -11,3 +11,4 @@ mod texts;
 mod words;
 
 pub use print::print_shown;
+pub use texts::print_quoted;

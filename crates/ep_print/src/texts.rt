@@ -2,7 +2,7 @@
 
 ghost use Rattle.std.specs.Prelude.{◌≡◌, ◌++◌, IfOk, OnOk, string_bytes};
 ghost use Rattle.ep_print.specs.Reasons.{session_out};
-ghost use Rattle.ep_print.specs.Texts.{written, escaped, text_out, change_out};
+ghost use Rattle.ep_print.specs.Texts.{written, escaped, text_out, quoted, change_out};
 
 use ep_cs::Change;
 use ep_csread::for_wire;
@@ -48,6 +48,14 @@ pub(crate) fn print_text(alloc: Global, text: &Units) -> Result<String, NoMemory
     ensures { IfOk result (λ s. string_bytes s ≡ text_out text.now) }
 {
     escape(alloc, text)?.to_text_lossy(alloc)
+}
+
+/// A text in double quotes, on one line.
+pub fn print_quoted(alloc: Global, text: &Units) -> Result<String, NoMemory>
+    ensures { IfOk result (λ s. string_bytes s ≡ quoted text.now) }
+{
+    let text = print_text(alloc, text)?;
+    Ok(format!(in alloc; "\"{text}\"")?)
 }
 
 pub(crate) fn print_change(alloc: Global, change: &Change) -> Result<String, NoMemory>

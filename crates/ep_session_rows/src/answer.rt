@@ -1,8 +1,9 @@
 //! The reply to a line.
 
-use crate::asked::{array, draws, pad, text, whole};
+use crate::asked::{array, numbers, pad, text, whole};
 use crate::called::{MemHouse, Ports};
 use crate::played::Played;
+use crate::standing::put_standing;
 use crate::stop::Stop;
 use crate::told::told;
 use ep_disk_mem::{MemClock, MemDraws, MemFile, MemShelf};
@@ -12,8 +13,8 @@ use ep_link::{Coming, MemLink};
 use ep_outside::{Limits, Text};
 use ep_pad::PadPort;
 use ep_session::serve_session;
-use serde_json::Value;
 use serde_json::error::Category;
+use serde_json::{Map, Value};
 use std::alloc::{AllocError, Global};
 use std::collections::VecDeque;
 use std::sync::Wait;
@@ -104,15 +105,23 @@ fn coming(alloc: Global, step: &Value) -> Result<Coming, Stop> {
     }
 }
 
-/// A link for the receives among what is to come.
-fn link(alloc: Global, steps: &[Value]) -> Result<MemLink, Stop> {
+/// The calls of the link that fail, by their numbers.
+fn fails(alloc: Global, request: &Value) -> Result<Vec<u64>, Stop> {
+    match request.get("fails") {
+        Some(_) => numbers(alloc, array(request, "fails")?),
+        None => Ok(Vec::new(alloc)),
+    }
+}
+
+/// A link for the receives among what is to come, whose calls of these numbers fail.
+fn link(alloc: Global, steps: &[Value], fails: Vec<u64>) -> Result<MemLink, Stop> {
     let mut all = VecDeque::new(alloc);
     for step in steps {
         if step.get("call").is_none() {
             all.push_back(coming(alloc, step)?)?;
         }
     }
-    Ok(MemLink::new(alloc, all, Vec::new(alloc)))
+    Ok(MemLink::new(alloc, all, fails))
 }
 
 /// What a session on these ports comes to.
@@ -123,10 +132,10 @@ fn served<R: Wait, P: PadPort, G: DirPort>(
     dir: &G,
     link: &mut Played<'_>,
     request: &Value,
-) -> Result<Value, Stop> {
+) -> Result<Map<String, Value>, Stop> {
     let clock = MemClock::new(vec![in alloc; whole(request, "now")?]?);
-    let numbers = draws(alloc, request)?;
-    let mut draws = MemDraws::new(&numbers);
+    let drawn = numbers(alloc, array(request, "draws")?)?;
+    let mut draws = MemDraws::new(&drawn);
     let report = serve_session(rt, alloc, pads, dir, link, &clock, &mut draws);
     told(alloc, &report, link.link.passed())
 }
@@ -138,7 +147,7 @@ fn served_by<R: Wait, P: PadPort>(
     pads: &P,
     link: &mut Played<'_>,
     request: &Value,
-) -> Result<Value, Stop> {
+) -> Result<Map<String, Value>, Stop> {
     served(rt, ports.alloc, pads, &ports.house, link, request)
 }
 
@@ -149,11 +158,16 @@ fn reply<R: Wait>(rt: &R, alloc: Global, request: &Value) -> Result<Value, Stop>
     }
     let steps = array(request, "link")?;
     let mut link = Played {
-        link: link(alloc, steps)?,
+        link: link(alloc, steps, fails(alloc, request)?)?,
         ports: &ports,
         steps,
     };
-    served_by(rt, &ports, &ports.house, &mut link, request)
+    let mut members = served_by(rt, &ports, &ports.house, &mut link, request)?;
+    if request.get("asks").is_some() {
+        let asked = pad(alloc, text(request, "asks")?)?;
+        put_standing(rt, alloc, &ports.house, &asked, &mut members)?;
+    }
+    Ok(Value::Object(members))
 }
 
 fn request(alloc: Global, line: &str) -> Result<Value, Stop> {

@@ -96,11 +96,11 @@ pub fn drawn(value: &Value) -> Result<Drawn, Stop> {
     Ok(Drawn { digits })
 }
 
-/// The draws of a session.
-pub fn draws(alloc: Global, value: &Value) -> Result<Vec<u64>, Stop> {
-    let mut draws = Vec::new(alloc);
-    for draw in array(value, "draws")? {
-        draws.push(draw.as_u64().ok_or(Stop::Wrong)?)?;
+/// Numbers that stand in a list.
+pub fn numbers(alloc: Global, values: &[Value]) -> Result<Vec<u64>, Stop> {
+    let mut numbers = Vec::new(alloc);
+    for value in values {
+        numbers.push(value.as_u64().ok_or(Stop::Wrong)?)?;
     }
-    Ok(draws)
+    Ok(numbers)
 }

@@ -2,8 +2,10 @@
 //!
 //! A request has the calls made `before` on an empty house and directory in memory, what the `link` of the session answers
 //! (with calls of other callers among its receives), the moment that the clock shows (`now`) and the session's ten `draws`.
-//! It may have `limits`, and `files` that the shelf holds. The reply has what the session `sent` and how it ended, and the
-//! numbers of its report.
+//! It may have `limits`, `files` that the shelf holds, the numbers of the link's calls that are to fail (`fails`: receives and
+//! sends are counted together), and a pad that is asked about behind the session (`asks`). The reply has what the session
+//! `sent` and how it ended, and the numbers of its report; and of the pad asked about its `head`, and how many of its
+//! sessions are `live`.
 #![tactic(auto)]
 
 mod answer;
@@ -12,6 +14,7 @@ mod called;
 mod desk;
 mod played;
 mod refusal;
+mod standing;
 mod stop;
 mod told;
 

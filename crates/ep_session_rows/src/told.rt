@@ -26,12 +26,12 @@ fn session(alloc: Global, session: Option<Session>) -> Result<Value, Stop> {
     }
 }
 
-/// The reply for a session that was served.
+/// What the reply has of a session that was served.
 pub fn told<O: Drop, A: Drop, B: Drop>(
     alloc: Global,
     report: &Report<O, A, B>,
     passed: &[Passed],
-) -> Result<Value, Stop> {
+) -> Result<Map<String, Value>, Stop> {
     let end = Ended(&report.end);
     let mut members = Map::new(alloc);
     serde_json::put(&mut members, alloc, "cursor", Value::from(report.cursor))?;
@@ -42,5 +42,5 @@ pub fn told<O: Drop, A: Drop, B: Drop>(
     serde_json::put(&mut members, alloc, "session", session)?;
     serde_json::put(&mut members, alloc, "start", Value::from(report.start))?;
     serde_json::put(&mut members, alloc, "taken", Value::from(report.taken))?;
-    Ok(Value::Object(members))
+    Ok(members)
 }

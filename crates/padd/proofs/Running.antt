@@ -1,16 +1,18 @@
 -- What a run writes, of how its script ended.
-use Rattle.std.proofs.Common.{◌≡◌, ℕ, zero, suc, ◌<◌, ◌⊎◌, List, [], ◌∷◌, get_or, Option, Some, None, refl, sym, ap, ◌∙◌, subst, arith, append-nil, inl, inr, lit<}
+use Rattle.std.proofs.Common.{◌≡◌, ℕ, ◌⊎◌, List, [], ◌∷◌, Option, Some, None, refl, sym, ap, ◌∙◌, subst, arith, append-nil, inl, inr, lit<}
 use Rattle.std.specs.Prelude.{Result, Ok, Err, IfSome, IsSome, IsErrOf, Contains, ◌↔◌}
 use Rattle.ep_units.specs.Text.{Text}
 use Rattle.ep_outside.specs.Disk.{Contents, settled}
-use Rattle.ep_outside.specs.Outside.{Takes, TakesPart, IsAtEnd}
+use Rattle.ep_outside.specs.Outside.{Takes, TakesPart}
 use Rattle.ep_outside.proofs.Pieces.{started, stopped}
 use Rattle.ep_pad_file.specs.Standing.{Holds}
 use Rattle.ep_world.specs.declared.world.World.{World}
 use Rattle.ep_world.proofs.Leading.{scheduled}
 use Rattle.padd.specs.Ending.{EndsLines, EndsScript, code_of, world_of}
 use Rattle.padd.specs.Play.{IsTranscript, opening, reads_of}
-use Rattle.padd.specs.Run.{IsEnd, IsMade, IsMadeOf, Writes, WritesPart}
+use Rattle.ep_words.specs.Lines.{Line}
+use Rattle.ep_words.specs.Lines as line
+use Rattle.padd.specs.Run.{IsEnd, IsMade, IsMadeOf, IsOther, Writes, WritesPart, statuses}
 use Rattle.padd.specs.declared.play.PlayBad.{PlayBad}
 use Rattle.padd.specs.declared.play.PlayBad.TheVariants.{SourceFault, SinkFault, Failed}
 use Rattle.padd.proofs.Transcripts.{some}
@@ -127,13 +129,25 @@ nothing_played told failures id None held r bad is =
     let x = some 1 (opening id) (reads_of []) in
     subst (λ r. EndsScript told failures (opening id) None held held r) (sym is) ([], (x.0, x.1, x.2, x.3, stopped held held x.0 x.0 (started held x.0)))
 
-pub known_more : (code : ℕ) → Contains (0 ∷ 3 ∷ 4 ∷ 5 ∷ 7 ∷ []) code → Contains (0 ∷ 2 ∷ 3 ∷ 4 ∷ 5 ∷ 7 ∷ []) code
-known_more code (i, h, e) = go i h e
-  where
-    go : (i : ℕ) → i < 5 → get_or (0 ∷ 3 ∷ 4 ∷ 5 ∷ 7 ∷ []) i code ≡ code → Contains (0 ∷ 2 ∷ 3 ∷ 4 ∷ 5 ∷ 7 ∷ []) code
-    go zero h e = (0, lit< tt, e)
-    go (suc i) h e = (suc (suc i), (let k : suc (suc i) < 6 = omega arith in k), e)
+-- ---- of the words
 
-pub known_usage : (code : ℕ) → (code ≡ 2) ⊎ (code ≡ 5) → Contains (0 ∷ 2 ∷ 3 ∷ 4 ∷ 5 ∷ 7 ∷ []) code
-known_usage code (inl e) = (1, lit< tt, sym e)
-known_usage code (inr e) = (4, lit< tt, sym e)
+pub known_usage : (code : ℕ) → (code ≡ 2) ⊎ (code ≡ 5) → Contains (2 ∷ 5 ∷ 7 ∷ []) code
+known_usage code (inl e) = (0, lit< tt, sym e)
+known_usage code (inr e) = (1, lit< tt, sym e)
+
+pub known_other : (o : Option Line) (code : ℕ) → IsOther o → (code ≡ 2) ⊎ (code ≡ 5) → Contains (statuses o) code
+known_other None code other e = known_usage code e
+known_other (Some (line.play id)) code other e = absurd other
+known_other (Some (line.serve pads api dir key)) code other e = known_usage code e
+known_other (Some (line.write addr pad token)) code other e = absurd other
+known_other (Some (line.verify dir workers)) code other e = absurd other
+known_other (Some (line.make number clients edits)) code other e = absurd other
+
+-- memory may run out at any words
+pub known_wanting : (o : Option Line) → Contains (statuses o) 7
+known_wanting None = (2, lit< tt, refl)
+known_wanting (Some (line.play id)) = (4, lit< tt, refl)
+known_wanting (Some (line.serve pads api dir key)) = (2, lit< tt, refl)
+known_wanting (Some (line.write addr pad token)) = (4, lit< tt, refl)
+known_wanting (Some (line.verify dir workers)) = (4, lit< tt, refl)
+known_wanting (Some (line.make number clients edits)) = (2, lit< tt, refl)

@@ -1,5 +1,5 @@
 -- What a run of the program promises.
-use Rattle.std.specs.Prelude.{ℕ, ◌≡◌, ◌⊎◌, List, codes, Option, Some, None}
+use Rattle.std.specs.Prelude.{ℕ, ◌≡◌, ◌⊎◌, List, [], ◌∷◌, codes, Option, Some, None}
 use Rattle.ep_units.specs.Text.{Text}
 use Rattle.ep_outside.specs.Disk.{Contents}
 use Rattle.ep_outside.specs.Outside.{Takes, TakesPart}
@@ -16,11 +16,44 @@ use Rattle.padd.specs.Play.{Scene, IsTranscript, TranscriptOf}
 abbrev pub IsPlay : List (List ℕ) → Text → Type 0
 IsPlay words id = line_in words ≡ Some (line.play id)
 
--- they are no line, or the line of a command that isn't built yet
+-- the words ask to write to this pad, by this token
+abbrev pub IsWrite : List (List ℕ) → List ℕ → List ℕ → Type 0
+IsWrite words pad token = (addr : List ℕ) × line_in words ≡ Some (line.write addr pad token)
+
+-- the words ask to judge the files of a folder
+abbrev pub IsVerify : List (List ℕ) → Type 0
+IsVerify words = (dir : List ℕ) × (workers : ℕ) × line_in words ≡ Some (line.verify dir workers)
+
+-- the words ask for the schedule of a number
+abbrev pub IsMake : List (List ℕ) → ℕ → ℕ → ℕ → Type 0
+IsMake words number clients edits = line_in words ≡ Some (line.make number clients edits)
+
+-- they are no line, or the line of the command that isn't built yet
 abbrev pub IsOther : Option Line → Type 0
 IsOther None = Unit {0}
 IsOther (Some (line.play id)) = ⊥
-IsOther (Some l) = Unit {0}
+IsOther (Some (line.serve pads api dir key)) = Unit {0}
+IsOther (Some (line.write addr pad token)) = ⊥
+IsOther (Some (line.verify dir workers)) = ⊥
+IsOther (Some (line.make number clients edits)) = ⊥
+
+-- the command reads the lines of the source
+abbrev pub ReadsLines : Option Line → Type 0
+ReadsLines None = ⊥
+ReadsLines (Some (line.play id)) = Unit {0}
+ReadsLines (Some (line.serve pads api dir key)) = ⊥
+ReadsLines (Some (line.write addr pad token)) = Unit {0}
+ReadsLines (Some (line.verify dir workers)) = ⊥
+ReadsLines (Some (line.make number clients edits)) = ⊥
+
+-- the statuses that words may end with
+abbrev pub statuses : Option Line → List ℕ
+statuses None = 2 ∷ 5 ∷ 7 ∷ []
+statuses (Some (line.play id)) = 0 ∷ 3 ∷ 4 ∷ 5 ∷ 7 ∷ []
+statuses (Some (line.serve pads api dir key)) = 2 ∷ 5 ∷ 7 ∷ []
+statuses (Some (line.write addr pad token)) = 0 ∷ 3 ∷ 4 ∷ 5 ∷ 7 ∷ 8 ∷ 10 ∷ 11 ∷ []
+statuses (Some (line.verify dir workers)) = 0 ∷ 1 ∷ 5 ∷ 6 ∷ 7 ∷ []
+statuses (Some (line.make number clients edits)) = 0 ∷ 5 ∷ 7 ∷ []
 
 -- the words ask for nothing that the program does
 abbrev pub IsUsage : List (List ℕ) → Type 0

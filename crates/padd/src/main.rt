@@ -1,18 +1,21 @@
 //! `padd`, the server of a collaborative pad.
 //!
-//! All that the program does is `run`, over any source and sink; `main` makes the real ones.
+//! All that the program does is `run`, over any devices; `main` makes the real ones.
 #![tactic(auto)]
 
+mod judge;
+mod making;
 mod play;
+mod real;
 mod reason;
 mod run;
 mod say;
 mod stage;
 mod status;
+mod writing;
 
-use ep_edge::{StdSink, StdSource};
-use run::run;
-use std::io::ErrorKind;
+use real::run_real;
+use std::io::{ErrorKind, IsTerminal};
 use std::process::ExitCode;
 use std::{env, io};
 
@@ -33,8 +36,8 @@ fn main(rt: HostRuntime) -> ExitCode {
     let Ok(words) = given_words(&rt) else {
         return ExitCode::from(7);
     };
-    let mut source = StdSource::new(rt.reader());
-    let mut sink = StdSink::new(io::writer(&rt));
-    let status = run(rt.alloc(), &words, &mut source, &mut sink);
-    ExitCode::from(status.code)
+    match run_real(rt, rt.stderr().is_terminal(), &words) {
+        Ok(status) => ExitCode::from(status.code),
+        Err(_) => ExitCode::from(7),
+    }
 }

@@ -1,44 +1,74 @@
-//! The top call: all that the program does, over any source and sink.
+//! The top call: all that the program does, over any devices.
 
-ghost use Rattle.std.specs.Prelude.{◌≡◌, ◌⊎◌, ◌∷◌, [], map, true, Contains};
+ghost use Rattle.std.specs.Prelude.{◌≡◌, ◌⊎◌, ℕ, List, map, true, Contains};
 ghost use Rattle.std.specs.String.{string_bytes};
 ghost use Rattle.ep_outside.specs.Outside.{HasRisen, IsAtEnd, Takes, TakesPart};
 ghost use Rattle.ep_units.specs.Text.{Text};
-ghost use Rattle.padd.specs.Run.{IsPlay, IsUsage, IsEnd, Writes, WritesPart, usage};
+ghost use Rattle.ep_words.specs.Lines.{line_in};
+ghost use Rattle.padd.specs.Judged.{FailsBy, Judges};
+ghost use Rattle.padd.specs.Making.{MakesLines};
+ghost use Rattle.padd.specs.Run.{IsEnd, IsMake, IsPlay, IsUsage, IsVerify, IsWrite, ReadsLines, Writes, WritesPart, statuses, usage};
+ghost use Rattle.padd.specs.Writing.{WritesPad};
 
+use crate::judge::verify_to;
+use crate::making::make_to;
 use crate::play::play;
 use crate::say::say;
 use crate::status::Status;
-use ep_outside::{Sink, Source};
+use crate::writing::write_pad;
+use ep_doors::Doors;
+use ep_outside::{Shelf, Sink, Source};
 use ep_words::{Command, WordsBad, read_words};
 use std::alloc::Global;
+use std::sync::Wait;
+use std::thread::Threads;
 
 const USAGE: &str =
     "usage: padd play [NAME] | serve PADS API DIR KEY | write ADDR PAD TOKEN | verify DIR WORKERS | make NUMBER CLIENTS EDITS\n";
 
 /// Does all that the program does. Status 7, want of memory, may come at any time.
-pub fn run<S: Source, K: Sink>(
+pub fn run<R: Wait + Threads, S: Source, K: Sink, H: Shelf, N: Doors>(
+    rt: &R,
     alloc: Global,
     words: &[String],
     source: &mut S,
     sink: &mut K,
+    shelf: &mut H,
+    doors: &mut N,
 ) -> Status
+where
+    N::Pad: Drop,
     // Which words are wrong, and what is said then.
     ensures usage { IsUsage (map string_bytes words.now) → (result.code ≡ 2) ⊎ ((result.code ≡ 5) ⊎ (result.code ≡ 7)) }
     ensures usage_only { result.code ≡ 2 → IsUsage (map string_bytes words.now) × Takes (K.held sink.old) (K.held sink.new) usage }
     ensures usage_unread { IsUsage (map string_bytes words.now) → source.new ≡ source.old }
     ensures usage_part { IsUsage (map string_bytes words.now) → TakesPart (K.held sink.old) (K.held sink.new) usage }
 
-    // What is written is a transcript of the script, as far as it goes, and a beginning of one at any other status.
+    // Of `play` a transcript of the script is written, as far as it goes, and a beginning of one at any other status.
     ensures plays { (id : Text) → IsPlay (map string_bytes words.now) id → IsEnd result.code
         → Writes id (S.left source.old) (K.held sink.old) (K.held sink.new) result.code }
-    ensures read { result.code ≡ 0 → IsAtEnd (S.left source.new) }
     ensures part { (id : Text) → IsPlay (map string_bytes words.now) id → WritesPart id (S.left source.old) (K.held sink.old) (K.held sink.new) }
 
-    // Each fault has its cause.
+    // Of `write` the lines of the source go to the pad.
+    ensures writes { (pad token : List ℕ) → IsWrite (map string_bytes words.now) pad token
+        → WritesPad N.Pad.traffic N.Pad.failures pad token (S.left source.old) (K.held sink.old) (K.held sink.new) result.code (N.failures doors.old) (N.failures doors.new) }
+
+    // Of `verify` the files of the shelf are judged.
+    ensures judges { IsVerify (map string_bytes words.now)
+        → Judges (H.names shelf.old) (H.told shelf.old) K.held sink.old sink.new result.code }
+    ensures names { H.names shelf.new ≡ H.names shelf.old }
+
+    // Of `make` the schedule of the number is played, and its five lines written.
+    ensures makes { (number clients edits : ℕ) → IsMake (map string_bytes words.now) number clients edits
+        → MakesLines K.held number clients edits sink.old sink.new result.code }
+
+    // Each status is one that its words may have, and each fault has its cause.
+    ensures known { Contains (statuses (line_in (map string_bytes words.now))) result.code }
+    ensures read { result.code ≡ 0 → ReadsLines (line_in (map string_bytes words.now)) → IsAtEnd (S.left source.new) }
     ensures source_fault { result.code ≡ 4 → HasRisen (S.failures source.old) (S.failures source.new) }
     ensures sink_fault { result.code ≡ 5 → HasRisen (K.failures sink.old) (K.failures sink.new) }
-    ensures known { Contains (0 ∷ 2 ∷ 3 ∷ 4 ∷ 5 ∷ 7 ∷ []) result.code }
+    ensures shelf_fault { result.code ≡ 6 → HasRisen (H.failures shelf.old) (H.failures shelf.new)
+        ⊎ FailsBy H.D.told H.D.failures (H.told shelf.old) }
 
     // Where no device fails, the words are told wrong, or the script is played as far as it goes, unless memory runs out.
     ensures usage_complete { K.is_steady sink.old ≡ true → IsUsage (map string_bytes words.now) → (result.code ≡ 2) ⊎ (result.code ≡ 7) }
@@ -47,7 +77,18 @@ pub fn run<S: Source, K: Sink>(
 {
     match read_words(alloc, words) {
         Ok(Command::Play { pad }) => play(alloc, source, sink, pad).status,
-        Ok(_) | Err(WordsBad::Usage) => say(sink, USAGE, 2),
+        Ok(Command::Write { pad, token, .. }) => {
+            write_pad(rt, alloc, source, sink, doors, pad, token)
+        }
+        Ok(Command::Verify { workers, .. }) => { verify_to(rt, alloc, shelf, sink, workers as u32) }
+        Ok(
+            Command::Make {
+                number,
+                clients,
+                edits,
+            },
+        ) => make_to(alloc, sink, number, clients as u32, edits as u32),
+        Ok(Command::Serve { .. }) | Err(WordsBad::Usage) => say(sink, USAGE, 2),
         Err(WordsBad::NoMemory) => Status { code: 7 },
     }
 }

@@ -1,7 +1,12 @@
 //! The program over a text and a page in memory.
 
+mod doors;
+
 use super::*;
+use doors::Quiet;
+use ep_disk_mem::{MemFile, MemShelf};
 use ep_outside::{Device, Failed, Got};
+use ep_units::{NoMemory, PadId, Units};
 use std::test::Fail;
 
 /// A text that gives at most three bytes a read.
@@ -80,6 +85,14 @@ impl Page {
             faults: 0,
         }
     }
+
+    /// What was written, with this status.
+    fn outcome(self, status: Status) -> Result<Outcome, Fail> {
+        Ok(Outcome {
+            output: String::from_utf8(self.held)?,
+            code: status.code,
+        })
+    }
 }
 
 impl Device for Page {
@@ -130,25 +143,68 @@ struct Outcome {
     code: u8,
 }
 
-fn run_words(alloc: Global, line: &str, mut text: Text, mut page: Page) -> Result<Outcome, Fail> {
+/// The words of a line.
+fn words_of(alloc: Global, line: &str) -> Result<Vec<String>, NoMemory> {
     let mut words = Vec::new(alloc);
     for word in line.split_whitespace() {
         words.push(String::from_str(alloc, word)?)?;
     }
-    let status = run(alloc, &words, &mut text, &mut page);
-    Ok(Outcome {
-        output: String::from_utf8(page.held)?,
-        code: status.code,
-    })
+    Ok(words)
 }
 
-fn play_script(alloc: Global, script: &[u8]) -> Result<Outcome, Fail> {
-    run_words(alloc, "play", Text::new(script), Page::new(alloc))
+/// A shelf of one file under a name, or of none where its bytes are empty.
+fn shelf_of(alloc: Global, name: &str, bytes: &[u8]) -> Result<MemShelf, Fail> {
+    let mut files = Vec::new(alloc);
+    if !bytes.is_empty() {
+        let name = Units::from_str(alloc, name)?;
+        files.push(MemFile {
+            name: PadId::read(alloc, &name)?.ok_or(Failed)?,
+            bytes: Vec::from_slice(alloc, bytes)?,
+            fails: Vec::new(alloc),
+        })?;
+    }
+    Ok(MemShelf::new(alloc, files, Vec::new(alloc))?)
+}
+
+/// What words come to beside a server that tells this, and over a shelf with a file of the pad `p`.
+fn run_beside<R: Wait + Threads>(
+    rt: &R,
+    alloc: Global,
+    line: &str,
+    mut text: Text,
+    mut page: Page,
+    told: &str,
+    file: &[u8],
+) -> Result<Outcome, Fail> {
+    let status = run(
+        rt,
+        alloc,
+        &words_of(alloc, line)?,
+        &mut text,
+        &mut page,
+        &mut shelf_of(alloc, "p", file)?,
+        &mut Quiet { alloc, told },
+    );
+    page.outcome(status)
+}
+
+fn run_words<R: Wait + Threads>(
+    rt: &R,
+    alloc: Global,
+    line: &str,
+    text: Text,
+    page: Page,
+) -> Result<Outcome, Fail> {
+    run_beside(rt, alloc, line, text, page, "", b"")
+}
+
+fn play_script<R: Wait + Threads>(rt: &R, alloc: Global, script: &[u8]) -> Result<Outcome, Fail> {
+    run_words(rt, alloc, "play", Text::new(script), Page::new(alloc))
 }
 
 #[test]
 fn ample_memory_suffices(rt: HostRuntime) -> Result<(), Fail> {
-    let outcome = play_script(rt.alloc(), SCRIPT.as_bytes())?;
+    let outcome = play_script(&rt, rt.alloc(), SCRIPT.as_bytes())?;
     assert_eq!(rt; outcome.output.as_str(), OUTPUT);
     assert_eq!(rt; outcome.code, 0);
     Ok(())
@@ -181,7 +237,7 @@ fn scripts(rt: HostRuntime) -> Result<(), Fail> {
             0,
         ),
     ] {
-        let outcome = play_script(rt.alloc(), script.as_bytes())?;
+        let outcome = play_script(&rt, rt.alloc(), script.as_bytes())?;
         assert_eq!(rt; outcome.output.as_str(), output, "at {script}");
         assert_eq!(rt; outcome.code, code, "at {script}");
     }
@@ -197,7 +253,7 @@ fn bad_utf8_ends_a_script(rt: HostRuntime) -> Result<(), Fail> {
             "head gone\nerror line 2 utf8\n",
         ),
     ] {
-        let outcome = play_script(rt.alloc(), script)?;
+        let outcome = play_script(&rt, rt.alloc(), script)?;
         assert_eq!(rt; outcome.output.as_str(), output);
         assert_eq!(rt; outcome.code, 3);
     }
@@ -217,7 +273,7 @@ fn words(rt: HostRuntime) -> Result<(), Fail> {
         "play g.abcdefghij000000$n",
     ] {
         let text = Text::new(SCRIPT.as_bytes());
-        let outcome = run_words(rt.alloc(), words, text, Page::new(rt.alloc()))?;
+        let outcome = run_words(&rt, rt.alloc(), words, text, Page::new(rt.alloc()))?;
         assert_eq!(rt;
             outcome.output.as_str(),
             "usage: padd play [NAME] | serve PADS API DIR KEY | write ADDR PAD TOKEN | verify DIR WORKERS | make NUMBER CLIENTS EDITS\n"
@@ -225,7 +281,7 @@ fn words(rt: HostRuntime) -> Result<(), Fail> {
         assert_eq!(rt; outcome.code, 2);
     }
     let text = Text::new(SCRIPT.as_bytes());
-    let outcome = run_words(rt.alloc(), "play notes", text, Page::new(rt.alloc()))?;
+    let outcome = run_words(&rt, rt.alloc(), "play notes", text, Page::new(rt.alloc()))?;
     assert_eq!(rt; outcome.output.as_str(), OUTPUT);
     assert_eq!(rt; outcome.code, 0);
     Ok(())
@@ -239,7 +295,7 @@ fn one_byte_too_many_is_refused(rt: HostRuntime) -> Result<(), Fail> {
     ] {
         let mut script = vec![in rt.alloc(); b'#'; bytes]?;
         script.extend_from_slice(b"\nhead\n")?;
-        let outcome = play_script(rt.alloc(), &script)?;
+        let outcome = play_script(&rt, rt.alloc(), &script)?;
         assert_eq!(rt; outcome.output.as_str(), output);
         assert_eq!(rt; outcome.code, code);
     }
@@ -259,9 +315,65 @@ fn fault_leaves_a_beginning(rt: HostRuntime) -> Result<(), Fail> {
         text.broken = read;
         let mut page = Page::new(rt.alloc());
         page.broken = write;
-        let outcome = run_words(rt.alloc(), "play", text, page)?;
+        let outcome = run_words(&rt, rt.alloc(), "play", text, page)?;
         assert_eq!(rt; outcome.output.as_str(), output);
         assert_eq!(rt; outcome.code, code);
     }
+    Ok(())
+}
+
+const EMPTY: &str =
+    r#"{"data":{"birth":1,"collab_client_vars":{"apool":{"nextNum":0,"numToAttrib":{}},"initialAttributedText":{"attribs":"|1+1","text":"\n"},"rev":0,"time":5},"padId":"p","readonly":false,"session":"1.1","userId":"a.1"},"type":"CLIENT_VARS"}"#;
+
+const DENIED: &str = r#"{"accessStatus":"deny"}"#;
+
+// As EMPTY, and then that the first edit is committed.
+const COMMITTED: &str =
+    r#"{"data":{"birth":1,"collab_client_vars":{"apool":{"nextNum":0,"numToAttrib":{}},"initialAttributedText":{"attribs":"|1+1","text":"\n"},"rev":0,"time":5},"padId":"p","readonly":false,"session":"1.1","userId":"a.1"},"type":"CLIENT_VARS"}
+{"data":{"newRev":1,"session":"1.1","type":"ACCEPT_COMMIT"},"type":"COLLABROOM"}"#;
+
+#[test]
+fn writes_to_a_server(rt: HostRuntime) -> Result<(), Fail> {
+    let alloc = rt.alloc();
+    for (told, script, output, code) in [
+        (COMMITTED, "insert 0 hi\n", "rev 1 \"hi\\n\"\n", 0),
+        (EMPTY, "insert 9 x", "error line 1 place\n", 3),
+        (DENIED, "", "refused {\"accessStatus\":\"deny\"}\n", 10),
+        ("", "", "", 11),
+    ] {
+        let (text, page) = (Text::new(script.as_bytes()), Page::new(alloc));
+        let outcome = run_beside(&rt, alloc, "write :1 p t", text, page, told, b"")?;
+        assert_eq!(rt; outcome.output.as_str(), output);
+        assert_eq!(rt; outcome.code, code);
+    }
+    Ok(())
+}
+
+#[test]
+fn judges_files(rt: HostRuntime) -> Result<(), Fail> {
+    let alloc = rt.alloc();
+    for (file, output, code) in [
+        (b"".as_slice(), "", 0),
+        (b"EPADJNL1\0".as_slice(), "\"p\" absent\n", 0),
+        (b"0123456789".as_slice(), "\"p\" foreign\n", 1),
+    ] {
+        let (text, page) = (Text::new(b""), Page::new(alloc));
+        let outcome = run_beside(&rt, alloc, "verify d 2", text, page, "", file)?;
+        assert_eq!(rt; outcome.output.as_str(), output);
+        assert_eq!(rt; outcome.code, code);
+    }
+    Ok(())
+}
+
+#[test]
+fn makes_a_schedule(rt: HostRuntime) -> Result<(), Fail> {
+    let alloc = rt.alloc();
+    let (text, page) = (Text::new(b""), Page::new(alloc));
+    let outcome = run_words(&rt, alloc, "make 7 2 0", text, page)?;
+    assert_eq!(rt;
+        outcome.output.as_str(),
+        "clients 2\nedits 0\nrevisions 1\nunits 1\nagreeing 2\n"
+    );
+    assert_eq!(rt; outcome.code, 0);
     Ok(())
 }

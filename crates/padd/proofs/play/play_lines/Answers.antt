@@ -1,4 +1,4 @@
-use Rattle.std.proofs.Common.{◌≡◌, Err, Ok, Some, None, List, ℕ, ◌++◌, true, sym, ap, ◌∙◌, subst, arith, rules, true≢false}
+use Rattle.std.proofs.Common.{◌≡◌, Err, Ok, sym, ap, ◌∙◌, subst, arith, rules, true≢false}
 use Rattle.ep_outside.specs.Outside.{Takes, TakesPart}
 use Rattle.padd.specs.Ending.{with_world}
 use Rattle.padd.specs.Stops.{bad_of_script}

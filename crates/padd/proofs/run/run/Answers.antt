@@ -1,13 +1,16 @@
+use Rattle.std.proofs.Common.{rules, map}
+use Rattle.std.specs.String.{string_bytes}
 use Rattle.ep_outside.proofs.Pieces.{started, stopped}
+use Rattle.ep_words.specs.Lines.{line_in}
 use Rattle.padd.specs.Run.{usage}
-use Rattle.padd.proofs.Running.{known_more, known_usage, part_nothing}
+use Rattle.padd.proofs.Running.{known_other, known_wanting, part_nothing}
 use Rattle.padd.proofs.run.run.Goals as goal
 
-pub returns-in-Ok-Play-clause-known : goal.returns-in-Ok-Play-clause-known
-returns-in-Ok-Play-clause-known g c = known_more c.play.result.status.code c.play.ensures.known
+pub returns-in-Ok-Serve-clause-known : goal.returns-in-Ok-Serve-clause-known
+returns-in-Ok-Serve-clause-known g c = search (rules, known_other)
 
-pub returns-in-Ok-clause-known : goal.returns-in-Ok-clause-known
-returns-in-Ok-clause-known g c = known_usage c.say.result.code c.say.ensures.known
+pub returns-in-Err-NoMemory-clause-known : goal.returns-in-Err-NoMemory-clause-known
+returns-in-Err-NoMemory-clause-known g c = known_wanting (line_in (map string_bytes c.args.words.now))
 
 pub returns-in-Err-NoMemory-clause-usage_part : goal.returns-in-Err-NoMemory-clause-usage_part
 returns-in-Err-NoMemory-clause-usage_part g c = λ h. stopped (g.K.Sink.held c.args.sink.now) (g.K.Sink.held c.args.sink.now) usage usage (started (g.K.Sink.held c.args.sink.now) usage)

@@ -1,0 +1,6 @@
+use Rattle.ep_make.specs.Made.{Leads}
+use Rattle.ep_make.specs.Schedule.{Each, Settles}
+use Rattle.ep_make.proofs.round.settle_all.Given as goal
+
+abbrev pub invariant-loop-k : goal.invariant-loop-k
+invariant-loop-k g l = Leads g.D.Disk.told g.D.Device.failures (Each (Settles 3) l.k) l.fn.world l.world
