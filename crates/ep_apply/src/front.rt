@@ -89,9 +89,9 @@ pub fn pass_within<'a, T: Node>(nodes: &mut &'a [Arc<T>], most: u32) -> Option<S
     }
 }
 
-/// Whether nodes that are open, one more and so many others are at most so many. None are open: no.
+/// Whether nodes that are open, one more and so many others are at most so many.
 pub fn have_room<T>(open: &[Arc<T>], others: usize, most: usize) -> bool {
-    !open.is_empty() && others < most.saturating_sub(open.len())
+    others < most.saturating_sub(open.len())
 }
 
 /// Adds the first of some nodes, which a document shares, to the last ones that are written, at least one and

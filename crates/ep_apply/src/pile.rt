@@ -78,6 +78,16 @@ impl Pile {
         Ok(())
     }
 
+    /// Whether there are blocks that are in no group.
+    pub fn is_begun(&self) -> bool {
+        !self.blocks.is_empty()
+    }
+
+    /// Whether there are blocks that are in no group, or groups that are in no page.
+    pub fn is_page_begun(&self) -> bool {
+        self.is_begun() || self.groups.is_begun()
+    }
+
     /// Whether blocks that are in no group, one that is open and so many more are not too many for a group.
     pub fn has_room(&self, blocks: usize) -> bool {
         have_room(&self.blocks, blocks, MOST)

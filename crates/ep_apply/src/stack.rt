@@ -80,6 +80,11 @@ impl Stack {
         Ok(())
     }
 
+    /// Whether there are groups that are in no page.
+    pub fn is_begun(&self) -> bool {
+        !self.groups.is_empty()
+    }
+
     /// Whether groups that are in no page, one that is open and so many more are not too many for a page.
     pub fn has_room(&self, groups: usize) -> bool {
         have_room(&self.groups, groups, MOST)

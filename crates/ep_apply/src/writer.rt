@@ -180,6 +180,16 @@ impl Writer {
         Ok(())
     }
 
+    // Whether a group is begun, if only by the open block, and so many blocks more are not too many for it.
+    fn has_room(&self, blocks: usize) -> bool {
+        (self.open.len() > 0 || self.pile.is_begun()) && self.pile.has_room(blocks)
+    }
+
+    // Whether a page is begun, if only by the open block, and so many groups more are not too many for it.
+    fn has_page_room(&self, groups: usize) -> bool {
+        (self.open.len() > 0 || self.pile.is_page_begun()) && self.pile.has_page_room(groups)
+    }
+
     /// Adds groups that the document shares.
     fn share_groups(&mut self, groups: &[Arc<Group>]) -> Result<(), NoMemory>
         requires { length self.old + length (all_cells groups.now) < 2 ^ 32 }
@@ -197,7 +207,7 @@ impl Writer {
     {
         let mut rest = groups;
         'pieces: while let [group, later @ ..] = rest {
-            if !self.pile.has_room(group.items().len()) {
+            if !self.has_room(group.items().len()) {
                 return self.share_groups(rest);
             }
             self.push_blocks(group.items())?;
@@ -223,7 +233,7 @@ impl Writer {
     {
         let mut rest = pages;
         'pieces: while let [page, later @ ..] = rest {
-            if !self.pile.has_page_room(page.items().len()) {
+            if !self.has_page_room(page.items().len()) {
                 return self.share_pages(rest);
             }
             self.push_groups(page.items())?;
