@@ -3,3 +3,4 @@ pub mod Pairs
 pub mod Adding
 pub mod Distinct
 pub mod Again
+pub mod Ascii

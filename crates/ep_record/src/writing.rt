@@ -1,14 +1,15 @@
 //! Records written as bytes.
 
-ghost use Rattle.std.specs.Prelude.{◌≡◌, ◌<◌, ◌^◌, ℕ, slice_index, ◌++◌, ◌∷◌, [], true, take, length, IfOk, OnOk, IsErrOf};
+ghost use Rattle.std.specs.Prelude.{◌≡◌, ◌<◌, ◌^◌, ℕ, slice_index, ◌++◌, ◌∷◌, [], true, take, length, IfOk, IfSome, OnOk, IsErrOf};
 ghost use Rattle.std.specs.List.{flat_map, AllByRecursion};
+ghost use Rattle.std.specs.Str.{IsAscii};
 ghost use Rattle.std.specs.String.{string_bytes};
 ghost use Rattle.ep_units.specs.Text.{is_well_formed};
 ghost use Rattle.ep_units.specs.Clean.{clean};
 ghost use Rattle.ep_units.specs.Utf8.{utf8_of};
 ghost use Rattle.ep_pool.specs.Pool.{pair_of};
 ghost use Rattle.ep_record.specs.Bytes.{bytes_of, change, count, counted, flag, number, pair, pool, session, text, IsChange, IsEncoding, IsNumber, IsPair, IsPool, IsRecord, IsSession, IsText};
-ghost use Rattle.ep_record.specs.Writing.{Adds};
+ghost use Rattle.ep_record.specs.Writing.{Adds, is_ascii};
 
 use crate::fault::Fault;
 use ep_attr::Attr;
@@ -18,6 +19,9 @@ use ep_history::Record;
 use ep_pool::Pool;
 use ep_units::{NoMemory, Session, TextBad, Units, well_formed_has_no_lone_half};
 use std::alloc::Global;
+
+/// For how many bytes there is room at first: the record of a letter has fewer.
+const ROOM: usize = 128;
 
 #[tactic(auto, unfolding(crate::specs::Bytes::number))]
 fn put_number(n: u64, out: &mut Vec<u8>) -> Result<(), Fault>
@@ -75,14 +79,64 @@ fn utf8(alloc: Global, us: &Units) -> Result<String, Fault>
     }
 }
 
+/// The units of a text of ASCII, which are its bytes, where they are few enough to be counted.
+fn ascii(us: &Units) -> Option<&[u16]>
+    ensures units { IfSome result (λ units. units.now ≡ us.now) }
+    ensures ascii { IfSome result (λ units. IsAscii units.now) }
+    ensures few { IfSome result (λ units. length units.now < 2 ^ 32) }
+{
+    let units = us.as_slice();
+    if units.len() <= u32::MAX as usize && is_ascii(units) {
+        Some(units)
+    } else {
+        None
+    }
+}
+
+fn is_ascii(units: &[u16]) -> bool
+    ensures { result ≡ is_ascii units.now }
+{
+    units.iter().all(|unit| *unit < 128)
+}
+
+fn put_units(units: &[u16], out: &mut Vec<u8>) -> Result<(), Fault>
+    requires { IsAscii units.now }
+    ensures { Adds result out.old.items out.new.items units.now (Unit {0}) }
+{
+    out.reserve(units.len())?;
+    for unit in units {
+        out.push(*unit as u8)?;
+    }
+    Ok(())
+}
+
+fn put_ascii(units: &[u16], out: &mut Vec<u8>) -> Result<(), Fault>
+    requires ascii { IsAscii units.now }
+    requires few { length units.now < 2 ^ 32 }
+    ensures { Adds result out.old.items out.new.items (text units.now) (IsText units.now) }
+{
+    put_count(units.len() as u32, out)?;
+    put_units(units, out)
+}
+
 #[tactic(auto, unfolding(crate::specs::Bytes::text))]
-fn put_text(alloc: Global, us: &Units, out: &mut Vec<u8>) -> Result<(), Fault>
+fn put_utf8(alloc: Global, us: &Units, out: &mut Vec<u8>) -> Result<(), Fault>
     ensures { Adds result out.old.items out.new.items (text us.now) (IsText us.now) }
 {
     let bytes = utf8(alloc, us)?;
     put_count(bytes.len() as u32, out)?;
     out.extend_from_slice(bytes.as_bytes())?;
     Ok(())
+}
+
+/// Most texts are ASCII, and need no string.
+fn put_text(alloc: Global, us: &Units, out: &mut Vec<u8>) -> Result<(), Fault>
+    ensures { Adds result out.old.items out.new.items (text us.now) (IsText us.now) }
+{
+    match ascii(us) {
+        Some(units) => put_ascii(units, out),
+        None => put_utf8(alloc, us, out),
+    }
 }
 
 #[tactic(auto, unfolding(crate::specs::Bytes::pair))]
@@ -187,7 +241,7 @@ pub(crate) fn written(alloc: Global, entry: &Record) -> Result<Vec<u8>, Fault>
     ensures bytes { IfOk result (λ v. IsEncoding v.items entry.now) }
     ensures none { IsErrOf result (Fault.NoRecord) → IsRecord entry.now → ⊥ }
 {
-    let mut out = Vec::new(alloc);
+    let mut out = Vec::with_capacity(alloc, ROOM)?;
     put(alloc, entry, &mut out)?;
     Ok(out)
 }
