@@ -13,7 +13,6 @@ use std::alloc::Global;
 pub type House<H, K> = HouseOf<H, PadMachine<<H as Shelf>::D>, K>;
 
 /// A house whose pads are such machines. Where these make the calls of a pad it is a `PadPort`, and it is a `DirPort`.
-#[derive(Drop)]
 pub struct HouseOf<H: Shelf + Drop, P: PadOver<H::D>, K: Keeper + Drop> {
     pub(crate) alloc: Global,
     pub(crate) pads: Pads<H, P>,
@@ -37,5 +36,16 @@ impl<H: Shelf + Drop, P: PadOver<H::D>, K: Keeper + Drop> HouseOf<H, P, K> {
             pads,
             directory,
         })
+    }
+}
+
+// It is written out, so that who drops a house doesn't prove again how each part is dropped.
+impl<H: Shelf + Drop, P: PadOver<H::D>, K: Keeper + Drop> Drop for HouseOf<H, P, K> {
+    fn drop(self) {
+        let HouseOf {
+            alloc: _,
+            pads: _,
+            directory: _,
+        } = self;
     }
 }

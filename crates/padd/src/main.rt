@@ -3,21 +3,18 @@
 //! All that the program does is `run`, over any devices; `main` makes the real ones.
 #![tactic(auto)]
 
-mod judge;
-mod making;
-mod play;
 mod real;
-mod reason;
-mod run;
-mod say;
-mod stage;
-mod status;
-mod writing;
+mod shelf;
 
-use real::run_real;
+use ep_doors::{ThreadSpawner, start_all};
+use ep_keep_far::FarKeeper;
+use ep_units::NoMemory;
+use real::{RealJob, keeper_in, run_real, word_at};
+use shelf::RealShelf;
 use std::io::{ErrorKind, IsTerminal};
 use std::process::ExitCode;
-use std::{env, io};
+use std::thread::join;
+use std::{env, io, thread};
 
 /// The words behind the program's name, or none where one is not UTF-8.
 fn given_words(rt: &HostRuntime) -> io::Result<Vec<String>> {
@@ -33,11 +30,40 @@ fn given_words(rt: &HostRuntime) -> io::Result<Vec<String>> {
 }
 
 fn main(rt: HostRuntime) -> ExitCode {
+    let alloc = rt.alloc();
     let Ok(words) = given_words(&rt) else {
         return ExitCode::from(7);
     };
-    match run_real(rt, rt.stderr().is_terminal(), &words) {
+    let Ok(folder) = String::from_str(alloc, word_at(&words, "serve", 5, 3)) else {
+        return ExitCode::from(7);
+    };
+    let Ok((spawner, starter)) = ThreadSpawner::<RealJob<HostRuntime>>::new(alloc) else {
+        return ExitCode::from(7);
+    };
+    let Ok((keeper, desk)) = FarKeeper::new(rt, alloc) else {
+        return ExitCode::from(7);
+    };
+    let Ok(pads) = RealShelf::open_at(&rt, folder.as_str()) else {
+        return ExitCode::from(7);
+    };
+    // The database stays in the thread that opens it, which ends with the program.
+    let kept = thread::spawn(&rt, move || {
+        if let Some(mut kept) = keeper_in(&rt, folder.as_str()) {
+            desk.answer_all(&rt, &mut kept);
+        }
+    });
+    if kept.is_err() {
+        return ExitCode::from(9);
+    }
+    let is_watched = rt.stderr().is_terminal();
+    // What the words ask for has a thread of its own; this one starts those of its jobs.
+    let (ended, ()) = join(
+        &rt,
+        move || run_real(rt, is_watched, &words, pads, keeper, spawner),
+        || start_all(&rt, starter),
+    );
+    match ended {
         Ok(status) => ExitCode::from(status.code),
-        Err(_) => ExitCode::from(7),
+        Err(NoMemory) => ExitCode::from(7),
     }
 }

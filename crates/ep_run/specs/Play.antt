@@ -1,0 +1,161 @@
+-- What a script may write, and the status that it ends with.
+use Rattle.std.specs.Prelude.{◌≡◌, ℕ, ◌+◌, Bool, true, false, if◌then◌else◌, List, [], ◌∷◌, ◌++◌, codes, Option, Some, None, IsSome, MatchOption, Result, Ok, Err}
+use Rattle.std.specs.Fmt.{decimal}
+use Rattle.ep_units.specs.Text.{Text}
+use Rattle.ep_attr.specs.AttrMap.{Pair}
+use Rattle.ep_pool.specs.Pool.{put, number_of}
+use Rattle.ep_csread.specs.Reading.{reading}
+use Rattle.ep_outside.specs.declared.image.Image.TheVariants.{Old}
+use Rattle.ep_outside.specs.declared.limits.Limits.{Limits}
+use Rattle.ep_history.specs.declared.pad_bad.PadBad.TheVariants.{JournalFull}
+use Rattle.ep_schedule.specs.World.{WorldState, Event, start}
+use Rattle.ep_schedule.specs.Kepts.{Kepts, nobodies}
+use Rattle.ep_event.specs.declared.event.Event.{Event as Told}
+use Rattle.ep_event.specs.declared.event.Event.TheVariants as event
+use Rattle.ep_event.specs.declared.shown.Shown.{Shown}
+use Rattle.ep_event.specs.declared.shown.Shown.TheVariants as shown
+use Rattle.ep_script.specs.Lines.{Row, rows_of, said}
+use Rattle.ep_script.specs.Script.{is_long, width}
+use Rattle.ep_script.specs.Line.{line_of}
+use Rattle.ep_script.specs.Seen.{Seen, whole, stopped}
+use Rattle.ep_script.specs.declared.line.Line.{Line}
+use Rattle.ep_script.specs.declared.line.Line.TheVariants as line
+use Rattle.ep_script.specs.declared.line.LineBad.{LineBad}
+use Rattle.ep_script.specs.declared.line.LineBad.TheVariants as bad
+use Rattle.ep_print.specs.Printed.{printed}
+use Rattle.ep_world.specs.Events.{event_at, happened, kept_happened, is_client, is_guest, is_known}
+use Rattle.ep_world.specs.Shows.{shows, shows_head, shows_marks, shows_text, shows_view, shows_view_marks}
+use Rattle.ep_world.specs.Standing.{no_room, overfull_at}
+use Rattle.ep_run.specs.declared.reason.Reason.{Reason}
+use Rattle.ep_run.specs.declared.reason.Reason.TheVariants.{Utf8, Syntax, Long, Unknown}
+
+-- ---- the lines of a script
+
+-- a line, of what is seen of it. What a stop leaves of the file is nothing to the rules: of the disk they know only
+-- whether it kept the record.
+abbrev pub line_seen : Seen → Line
+line_seen (whole l) = l
+line_seen (stopped n calls left) = line.Event (event.Stop (Some (record { name = n; calls = calls; image = Old })))
+
+-- why bytes are no line; a definition never says that memory ran out
+abbrev pub reason_of : LineBad → Reason
+reason_of bad.Utf8 = Utf8
+reason_of bad.Syntax = Syntax
+reason_of bad.NoMemory = Syntax
+
+abbrev pub line_read : Result Seen LineBad → Result Line Reason
+line_read (Ok seen) = Ok (line_seen seen)
+line_read (Err bad) = Err (reason_of bad)
+
+-- the line that begins at a place: whether it is too long is asked first
+abbrev pub read_at : ℕ → Row → Result Line Reason
+read_at place row = if is_long place row then Err Long else line_read (line_of (said row))
+
+-- what each line is, of those that begin at a place
+abbrev pub reads_at : ℕ → List Row → List (Result Line Reason)
+reads_at place [] = []
+reads_at place (row ∷ rows) = read_at place row ∷ reads_at (place + width row) rows
+
+-- what each line of a script is
+abbrev pub reads_of : List ℕ → List (Result Line Reason)
+reads_of script = reads_at 0 (rows_of script)
+
+-- ---- what stands between two lines
+
+-- the world of the rules, its clients as they are kept, and the script's pool
+pub record Scene : Type 0 where
+  pub world : WorldState
+  pub kepts : Kepts
+  pub pool : List Pair
+
+-- an event happens, where there is one
+abbrev pub after : Scene → Option Event → Scene
+after s e = record { world = happened s.world e; kepts = kept_happened s.world s.kepts e; pool = s.pool }
+
+-- the pair goes to the pool's end, where it isn't there
+abbrev pub with_pair : Scene → Pair → Scene
+with_pair s pair = record { world = s.world; kepts = s.kepts; pool = put s.pool pair }
+
+-- what the pad of a script is held to
+abbrev pub play_limits : Limits
+play_limits = record { live = 500; logins = 1000000; units = 1000000; journal = 268435456; pads = 10000 }
+
+-- what a script begins with: no pad of this id yet, nobody, and no pair
+abbrev pub opening : Text → Scene
+opening id = record { world = start play_limits id; kepts = nobodies; pool = [] }
+
+-- ---- why a line isn't played
+
+abbrev pub unless : Bool → Option Reason
+unless true = None
+unless false = Some Unknown
+
+-- a line that needs a client or a guest, and names none, isn't played
+abbrev pub line_stops : WorldState → Line → Option Reason
+line_stops w (line.Event e) = unless (is_known w e)
+line_stops w (line.Inject n base text) = unless (is_guest (w.actors n))
+line_stops w (line.Show n) = unless (is_client (w.actors n))
+line_stops w (line.ViewMarks n) = unless (is_client (w.actors n))
+line_stops w l = None
+
+-- nor is what is no line
+abbrev pub stops : WorldState → Result Line Reason → Option Reason
+stops w (Ok l) = line_stops w l
+stops w (Err reason) = Some reason
+
+-- ---- what a line shows
+
+-- Line k is an event, at the moment of k milliseconds: it happens, and is shown. Of a stop the disk decides whether the
+-- record of the take that it came into is kept. Or the journal has no room for the record, and says so.
+pub data Happens (k : ℕ) (s : Scene) (e : Told) (o : Option Shown) (next : Scene) : Type 0 where
+  IsEvent : (kept : Bool) → o ≡ Some (shows s.world k kept e) → next ≡ after s (event_at s.world k kept e) → Happens k s e o next
+  HasNoRoom : (bytes : ℕ) → o ≡ no_room e (JournalFull bytes) → IsSome o → next ≡ after s (overfull_at e) → Happens k s e o next
+
+-- what line k may show, and what stands behind it. A guest's text is read with the script's pool as it is now.
+abbrev pub Shows : ℕ → Scene → Line → Option Shown → Scene → Type 0
+Shows k s line.Blank o next = (o ≡ None) × (next ≡ s)
+Shows k s (line.Event e) o next = Happens k s e o next
+Shows k s (line.Inject n base text) o next = Happens k s (event.Inject n base (reading s.pool text)) o next
+Shows k s (line.Attr key value) o next = (o ≡ Some (shown.Attr (number_of s.pool (key, value)))) × (next ≡ with_pair s (key, value))
+Shows k s (line.Show n) o next = (o ≡ shows_view s.world n) × (next ≡ s)
+Shows k s line.Head o next = (o ≡ Some (shows_head s.world.pad)) × (next ≡ s)
+Shows k s (line.Text rev) o next = (o ≡ Some (shows_text s.world.pad rev)) × (next ≡ s)
+Shows k s line.Marks o next = (o ≡ Some (shows_marks s.world.pad)) × (next ≡ s)
+Shows k s (line.ViewMarks n) o next = (o ≡ shows_view_marks s.world n) × (next ≡ s)
+
+abbrev pub ShowsRead : ℕ → Scene → Result Line Reason → Option Shown → Scene → Type 0
+ShowsRead k s (Ok l) o next = Shows k s l o next
+ShowsRead k s (Err reason) o next = ⊥
+
+-- what is shown is written, as a line of output
+abbrev pub written : Option Shown → List ℕ
+written None = []
+written (Some x) = printed x
+
+-- ---- a script
+
+abbrev pub reason_text : Reason → List ℕ
+reason_text Utf8 = codes " utf8\n"
+reason_text Syntax = codes " syntax\n"
+reason_text Long = codes " long\n"
+reason_text Unknown = codes " unknown\n"
+
+-- why line k ends the script
+abbrev pub error_line : ℕ → Reason → List ℕ
+error_line k reason = codes "error line " ++ decimal k ++ reason_text reason
+
+-- A transcript of lines, the first of which has the number k: each writes what it may show, up to the first that isn't
+-- played, of which the reason is written. The status is 0, or 3 where there is such a line. What stands then is `end`.
+abbrev pub Transcript : ℕ → Scene → List (Result Line Reason) → List ℕ → ℕ → Scene → Type 0
+Transcript k s [] out status end = (out ≡ []) × (status ≡ 0) × (end ≡ s)
+Transcript k s (r ∷ rs) out status end = MatchOption (stops s.world r)
+    ((o : Option Shown) × (next : Scene) × (rest : List ℕ) × ShowsRead k s r o next × (out ≡ written o ++ rest) × Transcript (k + 1) next rs rest status end)
+    (λ reason. (out ≡ error_line k reason) × (status ≡ 3) × (end ≡ s))
+
+-- of a script on a pad of this id
+abbrev pub TranscriptOf : Text → List ℕ → List ℕ → ℕ → Scene → Type 0
+TranscriptOf id script out status end = Transcript 1 (opening id) (reads_of script) out status end
+
+-- a script may write this, and then ends with this status
+abbrev pub IsTranscript : Text → List ℕ → List ℕ → ℕ → Type 0
+IsTranscript id script out status = (end : Scene) × TranscriptOf id script out status end

@@ -1,0 +1,19 @@
+//! All that the program does, over any devices.
+//!
+//! One function reads the words and does what they ask for. It is not for real devices, which the program makes, nor for
+//! what is done for a caller of the server, which its host says.
+#![tactic(auto)]
+
+mod judge;
+mod making;
+mod play;
+mod reason;
+mod say;
+mod serving;
+mod stage;
+mod status;
+mod top;
+mod writing;
+
+pub use status::Status;
+pub use top::run;

@@ -1,0 +1,58 @@
+-- What of a real house may cross threads.
+use denote.RattleType.{RattleType}
+use denote.Param.Send.{IsSend, IsSync, sendable}
+use denote.Param.SendFields.{declared_send, as_row_send}
+use denote.Hole.{as_row}
+use denote.Struct.Field.{row_field}
+use Rattle.std.specs.declared.sync.Wait as wait
+use Rattle.std.proofs.Crossing.{crosses}
+use Rattle.ep_pad.proofs.machine.PadMachine.TheSendSync as machine
+use Rattle.ep_serve.proofs.Crossing.{house_send, house_sync}
+use Rattle.ep_serve.proofs.work.Work.TheSendSync as work
+use Rattle.ep_serve.specs.contracts.work.Work as served
+use Rattle.padd.specs.contracts.real.RealJob as real_job
+use Rattle.padd.specs.contracts.shelf.RealShelf as real_shelf
+use Rattle.ep_edge.specs.contracts.file_disk.FileDisk as file_disk
+use Rattle.ep_edge.specs.contracts.sys_clock.SysClock as sys_clock
+use Rattle.ep_edge.specs.contracts.sys_draws.SysDraws as sys_draws
+use Rattle.ep_doors.specs.contracts.thread_spawner.ThreadSpawner as spawner
+use Rattle.ep_net.specs.contracts.api_stream.ApiStream as api_stream
+use Rattle.ep_net.specs.contracts.watch.WakeEar as wake_ear
+use Rattle.ep_net.specs.contracts.ws_link.WsLink as ws_link
+use Rattle.ep_keep_far.specs.contracts.far_keeper.FarKeeper as far_keeper
+
+pub shelf_sends : IsSend real_shelf.the_row
+shelf_sends = search (sendable, crosses) depth 30
+
+pub disk_sends : IsSend file_disk.the_row
+disk_sends = search (sendable, crosses) depth 30
+
+pub keeper_sends : (R : RattleType) → IsSend R → IsSend (far_keeper.the_row R)
+keeper_sends R r = declared_send (far_keeper.the_type R) (as_row_send (row_field R) r, (search (sendable, crosses) depth 30, (search (sendable, crosses) depth 100 fits 1000000, (search (sendable, crosses) depth 100 fits 1000000, (search (sendable, crosses) depth 30, tt)))))
+
+pub spawner_sends : (J : RattleType) → IsSend J → IsSend (spawner.the_row J)
+spawner_sends J j = search (sendable, crosses) depth 100 fits 1000000
+
+work_sends : (P L A C D E : RattleType) → IsSend P → IsSend L → IsSend A → IsSend C → IsSend D → IsSend E → IsSync P → IsSync C → IsSend (as_row (served.the_field P L A C D E))
+work_sends P L A C D E p l a c d e ps cs = as_row_send (served.the_field P L A C D E) (work.the_field_send P L A C D E p l a c d e ps cs)
+
+link_sends : (R : RattleType) → IsSend R → IsSend (ws_link.the_row R)
+link_sends R r = search (sendable, crosses) depth 100 fits 1000000
+
+stream_sends : (R : RattleType) → IsSend R → IsSend (api_stream.the_row R)
+stream_sends R r = search (sendable, crosses) depth 100 fits 1000000
+
+clock_sends : (R : RattleType) → IsSend R → IsSend (sys_clock.the_row R)
+clock_sends R r = search (sendable, crosses) depth 100 fits 1000000
+
+clock_syncs : (R : RattleType) → IsSync R → IsSync (sys_clock.the_row R)
+clock_syncs R y = search (sendable, crosses) depth 100 fits 1000000
+
+draws_sends : (R : RattleType) → IsSend R → IsSend (sys_draws.the_row R)
+draws_sends R r = search (sendable, crosses) depth 100 fits 1000000
+
+ear_sends : IsSend wake_ear.the_row
+ear_sends = search (sendable, crosses) depth 100 fits 1000000
+
+pub job_sends : (R A B : RattleType) (w : wait.Ghosts R.Denot) → IsSend R → IsSync R → IsSend (real_job.the_row R A B w)
+job_sends R A B w r y = declared_send (real_job.the_type R A B w) (search (work_sends, house_send, house_sync, disk_sends, shelf_sends, keeper_sends, machine.the_send, link_sends, stream_sends, clock_sends, clock_syncs, draws_sends, ear_sends) depth 100 fits 1000000, tt)

@@ -1,5 +1,0 @@
-use Rattle.padd.proofs.Judging.{known_code}
-use Rattle.padd.proofs.judge.verify_to.Goals as goal
-
-pub returns-clause-known : goal.returns-clause-known
-returns-clause-known g c = rw c.status.ensures (known_code c.verify_to.result)

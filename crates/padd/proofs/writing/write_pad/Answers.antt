@@ -1,5 +1,0 @@
-use Rattle.padd.proofs.Writes.{known_code}
-use Rattle.padd.proofs.writing.write_pad.Goals as goal
-
-pub returns-in-Ok-clause-known : goal.returns-in-Ok-clause-known
-returns-in-Ok-clause-known g c = rw c.status_of.ensures (known_code c.write_to.result)
