@@ -5,7 +5,8 @@
 
 Run it anywhere in the repository, without words; it reads crates.txt and the files of crates/ and writes nothing. It
 prints a line for each listed crate that its reader's code, definitions and proofs don't name, or that its tests alone
-name, and for each crate that is named and not listed. The exit status is 1 where there is such a line.
+name, and for each crate that is named and not listed. A program, on which no crate stands, may list crates for its tests
+alone. The exit status is 1 where there is such a line.
 
 Known are the crates of the repository and the libraries that some line of crates.txt lists; `std` is never listed.
 """
@@ -83,8 +84,9 @@ def main():
         code, everything = read(crate)
         in_code = names(code, known) - {crate}
         in_all = names(everything, known) - {crate}
+        wanted = in_all if (TOP / "crates" / crate / "src" / "main.rt").exists() else in_code
         for need in needs:
-            if need not in in_code:
+            if need not in wanted:
                 found += 1
                 why = "for its tests alone" if need in in_all else "and doesn't name it"
                 print(f"{crate} lists {need} {why}")

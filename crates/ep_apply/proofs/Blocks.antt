@@ -35,6 +35,19 @@ next_node {A} f ns i n h e = ap (node_cells f) (take_more ns i n h) ∙ one_node
 pub split_nodes : {A : Type 0} (f : A → List Cell) (k : ℕ) (ns : List (Arc A Global)) → node_cells f (take k ns) ++ node_cells f (drop k ns) ≡ node_cells f ns
 split_nodes f k ns = sym (nodes-append f (take k ns) (drop k ns)) ∙ ap (node_cells f) (take-append-drop k ns)
 
+-- the first nodes are what they have of the cells, and the others the rest
+pub front_taken : {A : Type 0} (f : A → List Cell) (k : ℕ) (ns : List (Arc A Global)) (n : ℕ) → n ≡ length (node_cells f (take k ns)) → take n (node_cells f ns) ≡ node_cells f (take k ns)
+front_taken f k ns n e =
+    let front = node_cells f (take k ns) in
+    ap (take n) (sym (split_nodes f k ns)) ∙ take-append-le n front (node_cells f (drop k ns)) (omega (arith, e)) ∙ ap (λ (m : ℕ). take m front) e ∙ take-length front
+
+pub rest_left : {A : Type 0} (f : A → List Cell) (k : ℕ) (ns : List (Arc A Global)) (n : ℕ) → n ≡ length (node_cells f (take k ns)) → node_cells f (drop k ns) ≡ drop n (node_cells f ns)
+rest_left f k ns n e =
+    let front = node_cells f (take k ns) in
+    let rest = node_cells f (drop k ns) in
+    let all : n ≡ length front + 0 = omega (arith, e) in
+    sym (ap (drop n) (sym (split_nodes f k ns)) ∙ ap (λ (m : ℕ). drop m (front ++ rest)) all ∙ drop-append-add front rest 0)
+
 -- a node beside those before it
 pub node_room : {A : Type 0} (f : A → List Cell) (ns : List (Arc A Global)) (i : ℕ) (n : Arc A Global) → i < length ns → n ≡ get_or ns i n → length (node_cells f (take i ns)) + length (f (arc_value n)) ≤ length (node_cells f ns)
 node_room f ns i n h e =

@@ -3,7 +3,7 @@ use Rattle.std.proofs.Common.{◌≡◌, ℕ, zero, suc, ◌-◌, List, [], ◌�
 use Rattle.ep_units.specs.Text.{Text}
 use Rattle.ep_attr.specs.AttrMap.{AttrMap, none, after, join}
 use Rattle.ep_attr.proofs.Maps.{after-after}
-use Rattle.ep_cs.specs.Doc.{Doc, dressed}
+use Rattle.ep_cs.specs.Doc.{Doc, painted}
 use Rattle.ep_cs.specs.Edit.{Step, apply, inserts}
 use Rattle.ep_cs.specs.Edit.Fate.{Drop, Keep}
 use Rattle.ep_cs.specs.Edit.Step.{Insert, Pass}
@@ -31,7 +31,7 @@ map_after a m e =
     let made : after a m ≡ after none (join a m) = ap (λ (b : AttrMap). after b m) e ∙ after-after none a m in
     made ∙ once (join a m) ∙ ap (after none) (sym made)
 
-maps_made : (s : List Step) (doc : Doc) → NewMaps s → HasNoEmpty doc → HasNoEmpty (run dressed (λ c. c) s doc)
+maps_made : (s : List Step) (doc : Doc) → NewMaps s → HasNoEmpty doc → HasNoEmpty (run painted (λ c. c) s doc)
 maps_made [] doc new maps = tt
 maps_made (Insert c ∷ s) doc new maps = (new.0, maps_made s doc new.1 maps)
 maps_made (Pass Drop ∷ s) [] new maps = maps_made s [] new tt
@@ -72,7 +72,7 @@ document_made c doc n f is = record {
   pairs = document_after c.edit.places c.edit.last doc f.length n.pieces f.pairs is.pairs;
   values =
       let s = steps_of c.runs (bank_of c.edit) ++ rest_kept (length c.edit.places - all_passed c.runs) in
-      let e : apply c.edit doc ≡ run dressed (λ c. c) s doc = ap (λ (x : Change). apply x.edit doc) n.is ∙ apply-made s doc in
+      let e : apply c.edit doc ≡ run painted (λ c. c) s doc = ap (λ (x : Change). apply x.edit doc) n.is ∙ apply-made s doc in
       subst HasNoEmpty (sym e) (maps_made s doc (new_runs c.runs (bank_of c.edit) (length c.edit.places - all_passed c.runs) n.normal) is.values);
 }
 

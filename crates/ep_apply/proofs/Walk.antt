@@ -3,8 +3,8 @@ use Rattle.std.proofs.Common.{◌≡◌, ℕ, zero, suc, ◌+◌, ◌-◌, ◌<�
 use Rattle.std.proofs.lemmas.List.{drop_more, drop_all, length-map}
 use Rattle.ep_units.specs.Text.{Text}
 use Rattle.ep_attr.specs.AttrMap.{AttrMap, none}
-use Rattle.ep_cs.specs.Doc.{Cell, dressed}
-use Rattle.ep_cs.specs.Edit.{Fate, Place, Step, Edit, edit_of, apply, over, at_place, painted, numbered}
+use Rattle.ep_cs.specs.Doc.{Cell, painted}
+use Rattle.ep_cs.specs.Edit.{Fate, Place, Step, Edit, edit_of, apply, over, at_place, painted_item, numbered}
 use Rattle.ep_cs.specs.Edit.Item.{New}
 use Rattle.ep_cs.specs.Edit.Fate.{Drop, Keep}
 use Rattle.ep_cs.specs.Edit.Step.{Pass}
@@ -32,15 +32,15 @@ same_cells (c ∷ cs) = ap (λ ds. c ∷ ds) (same_cells cs)
 
 -- what steps make of cells
 abbrev pub made : List Step → List Cell → List Cell
-made steps cs = run dressed (λ c. c) steps cs
+made steps cs = run painted (λ c. c) steps cs
 
 pub apply-made : (steps : List Step) (doc : List Cell) → apply (edit_of steps) doc ≡ made steps doc
-apply-made steps doc = over-settle dressed (λ c. c) [] steps doc
+apply-made steps doc = over-settle painted (λ c. c) [] steps doc
 
-made_kept : (n : ℕ) (m : AttrMap) (steps : List Step) (cs : List Cell) → n ≤ length cs → made (replicate n (Pass (Keep m)) ++ steps) cs ≡ map (λ c. dressed c m) (take n cs) ++ made steps (drop n cs)
+made_kept : (n : ℕ) (m : AttrMap) (steps : List Step) (cs : List Cell) → n ≤ length cs → made (replicate n (Pass (Keep m)) ++ steps) cs ≡ map (λ c. painted c m) (take n cs) ++ made steps (drop n cs)
 made_kept zero m steps cs h = refl
 made_kept (suc n) m steps [] h = absurd (omega arith)
-made_kept (suc n) m steps (c ∷ cs) h = ap (λ ds. dressed c m ∷ ds) (made_kept n m steps cs (omega arith))
+made_kept (suc n) m steps (c ∷ cs) h = ap (λ ds. painted c m ∷ ds) (made_kept n m steps cs (omega arith))
 
 made_dropped : (n : ℕ) (steps : List Step) (cs : List Cell) → n ≤ length cs → made (replicate n (Pass Drop) ++ steps) cs ≡ made steps (drop n cs)
 made_dropped zero steps cs h = refl
@@ -52,7 +52,7 @@ pub made_run : (k : Kind) (n : ℕ) (m : AttrMap) (text : Text) (steps : List St
     → made (run_steps k n m text ++ steps) cs ≡ run_makes k m text (take (passed k n) cs) ++ made steps (drop (passed k n) cs)
 made_run kind.Keep n m text steps cs h = made_kept n m steps cs h
 made_run kind.Drop n m text steps cs h = made_dropped n steps cs h
-made_run kind.Insert n m text steps cs h = run_inserts dressed (λ c. c) (cells m text) steps cs ∙ ap (λ ds. ds ++ made steps cs) (same_cells (cells m text))
+made_run kind.Insert n m text steps cs h = run_inserts painted (λ c. c) (cells m text) steps cs ∙ ap (λ ds. ds ++ made steps cs) (same_cells (cells m text))
 
 pub all_passed_more : (ops : List Op) (i : ℕ) (o : Op) → i < length ops → o ≡ get_or ops i o → all_passed (drop i ops) ≡ passed o.kind o.units + all_passed (drop (i + 1) ops)
 all_passed_more ops i o h e = ap all_passed (drop_more ops i o h) ∙ ap (λ (p : Op). passed p.kind p.units + all_passed (drop (i + 1) ops)) (sym e)
@@ -108,16 +108,16 @@ walk_more ops bank doc out new_out i at used p k o runs is h e p_is k_is out_is 
     (walk_step ops bank doc out _ i at used (at + p) (used + k) o runs is h e (ap (λ n. at + n) p_is) (ap (λ n. used + n) k_is)
     (λ j. run_makes o.kind o.attrs (take (ks j) (drop used bank)) (take (ps j) (drop at doc))))
 
-made_rest : (n : ℕ) (cs : List Cell) → length cs ≤ n → made (rest_kept n) cs ≡ map (λ c. dressed c none) cs
+made_rest : (n : ℕ) (cs : List Cell) → length cs ≤ n → made (rest_kept n) cs ≡ map (λ c. painted c none) cs
 made_rest zero [] h = refl
 made_rest zero (c ∷ cs) h = absurd (omega arith)
 made_rest (suc n) [] h = made_rest n [] (omega arith)
-made_rest (suc n) (c ∷ cs) h = ap (λ ds. dressed c none ∷ ds) (made_rest n cs (omega arith))
+made_rest (suc n) (c ∷ cs) h = ap (λ ds. painted c none ∷ ds) (made_rest n cs (omega arith))
 
 -- the end of the walk
 pub walk_all : (ops : List Op) (bank : Text) (doc : List Cell) (out new_out : List Cell) (i at used : ℕ)
     → AreRuns (length doc) ops bank → IsAt ops bank doc out i at used → length ops ≤ i
-    → new_out ≡ out ++ map (λ c. dressed c none) (drop at doc)
+    → new_out ≡ out ++ map (λ c. painted c none) (drop at doc)
     → new_out ≡ apply (change_of (length doc) ops bank).edit doc
 walk_all ops bank doc out new_out i at used runs is h out_is =
     let nothing : drop i ops ≡ [] = drop_all i ops h in
@@ -147,7 +147,7 @@ over_length kept new kept' new' (p ∷ ps) last (x ∷ xs) (y ∷ ys) e =
     one (Keep m) = refl
 
 pub length_after : (e : Edit) (doc : List Cell) → length doc ≡ length e.places → length (apply e doc) ≡ new_len e
-length_after e doc h = over_length dressed (λ c. c) painted New e.places e.last doc (numbered 0 (length e.places)) (h ∙ sym (length-numbered 0 (length e.places)))
+length_after e doc h = over_length painted (λ c. c) painted_item New e.places e.last doc (numbered 0 (length e.places)) (h ∙ sym (length-numbered 0 (length e.places)))
 
 bank_used : (os : List Op) (bank : Text) → AreNormal os bank → all_inserted os ≡ length bank
 bank_used [] bank h = sym (ap length h)
@@ -226,11 +226,11 @@ go_on c doc ops bank out rest new_out new_rest i at used p k o w on h e p_is k_i
     }
 
 pub over_all : (c : Change) (doc : List Cell) (ops : List Op) (bank : Text) (out rest new_out : List Cell) (i at used : ℕ) → IsWalk c doc ops bank → IsOn ops bank doc out rest i at used → length ops ≤ i
-    → new_out ≡ out ++ map (λ c. dressed c none) (drop at doc) → new_out ≡ apply c.edit doc
+    → new_out ≡ out ++ map (λ c. painted c none) (drop at doc) → new_out ≡ apply c.edit doc
 over_all c doc ops bank out rest new_out i at used w on h e = walk_all ops bank doc out new_out i at used w.runs on.place h e ∙ w.whole
 
 pub end_short : (c : Change) (doc : List Cell) (ops : List Op) (bank : Text) (out rest : List Cell) (i at used : ℕ) → IsWalk c doc ops bank → IsOn ops bank doc out rest i at used → length ops ≤ i
     → length out + (length doc - at) < 2 ^ 32
 end_short c doc ops bank out rest i at used w on h =
-    let e = over_all c doc ops bank out rest (out ++ map (λ c. dressed c none) (drop at doc)) i at used w on h refl in
-    omega (arith, ap length e, length-append out (map (λ c. dressed c none) (drop at doc)), length-map (drop at doc) (λ c. dressed c none), length-drop at doc, w.short)
+    let e = over_all c doc ops bank out rest (out ++ map (λ c. painted c none) (drop at doc)) i at used w on h refl in
+    omega (arith, ap length e, length-append out (map (λ c. painted c none) (drop at doc)), length-map (drop at doc) (λ c. painted c none), length-drop at doc, w.short)

@@ -21,7 +21,7 @@ its_own cs = cs
 abbrev pub all_cells : List (Arc (List Cell) Global) → List Cell
 all_cells = node_cells its_own
 
--- what is told of a text is true: all but its last `tail` units are whole lines, and these have no newline
+-- what is said of a text is true: all but its last `tail` units are whole lines, and these have no newline
 pub record Sees (s : Seen) (us : Text) : Type 0 where
   pub units : s.units ≡ length us
   pub lines : s.lines ≡ count_lines us

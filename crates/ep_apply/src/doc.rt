@@ -18,7 +18,7 @@ use std::marker::Model;
 
 /// Attributed text: no half of a pair stands alone, the halves of a pair have equal maps, and no map has an empty value.
 ///
-/// It stands in pages of at most 9 groups of at most 16 blocks of at most 1,024 UTF-16 units; one that is short has groups
+/// It stands in pages of at most 9 groups of at most 16 blocks of at most 512 UTF-16 units; one that is short has groups
 /// and no page. Documents share pages, groups and blocks.
 #[derive(Drop)]
 pub struct Doc {

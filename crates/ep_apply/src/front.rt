@@ -23,6 +23,13 @@ pub struct Fit {
     pub units: u32,
 }
 
+/// How many of a list, from the first on, and what is seen of their text.
+#[derive(Clone, Copy)]
+struct Passed {
+    count: usize,
+    seen: Seen,
+}
+
 /// As many nodes as have at most so many units.
 fn within<T: Node>(nodes: &[Arc<T>], most: u32) -> Fit
     ensures count { result.count ≤ length nodes.now }
@@ -71,22 +78,41 @@ pub fn take_within<'a, T: Node>(nodes: &mut &'a [Arc<T>], most: u32) -> Front<'a
     }
 }
 
-/// Passes the first node, where it has at most so many units.
+/// What is seen of as many nodes as have at most so many units.
+fn seen_within<T: Node>(nodes: &[Arc<T>], most: u32) -> Passed
+    ensures count { result.count ≤ length nodes.now }
+    ensures seen { Sees result.seen (text_of (node_cells T.cells (take result.count nodes.now))) }
+    ensures most { result.seen.units ≤ most }
+{
+    let mut passed = Passed {
+        count: 0,
+        seen: Seen::nothing(),
+    };
+    for node in nodes {
+        let next = node.seen();
+        if next.units > most - passed.seen.units {
+            return passed;
+        }
+        passed = Passed {
+            count: passed.count + 1,
+            seen: passed.seen.then(next),
+        };
+    }
+    passed
+}
+
+/// Passes as many nodes as have at most so many units, if the first one has.
 pub fn pass_within<'a, T: Node>(nodes: &mut &'a [Arc<T>], most: u32) -> Option<Seen>
     ensures { MatchOption result (nodes.new ≡ nodes.old)
         (λ s. Sees s (text_of (take s.units (node_cells T.cells nodes.old.now))) × (node_cells T.cells nodes.new.now ≡ drop s.units (node_cells T.cells nodes.old.now)) × (1 ≤ s.units) × (s.units ≤ most)) }
 {
-    match *nodes {
-        [] => None,
-        [node, later @ ..] => {
-            let seen = node.seen();
-            if seen.units > most {
-                return None;
-            }
-            *nodes = later;
-            Some(seen)
-        }
+    let passed = seen_within(*nodes, most);
+    if passed.seen.units == 0 {
+        return None;
     }
+    let (_, later) = nodes.split_at(passed.count);
+    *nodes = later;
+    Some(passed.seen)
 }
 
 /// Whether nodes that are open, one more and so many others are at most so many.

@@ -1,7 +1,7 @@
 //! What a run keeps of a document.
 
 ghost use Rattle.std.specs.Prelude.{◌≡◌, ◌≤◌, ◌<◌, ◌^◌, ◌+◌, ◌++◌, length, take, drop, map, OnOk, IfOk};
-ghost use Rattle.ep_cs.specs.Doc.{dressed};
+ghost use Rattle.ep_cs.specs.Doc.{painted};
 
 use crate::reading::Reading;
 use crate::writer::Writer;
@@ -69,7 +69,7 @@ fn keep_piece(
 }
 
 /// Moves the next stretch, of at most so many units, after a map, and answers how many it has.
-fn dress_piece(
+fn paint_piece(
     alloc: Global,
     out: &mut Writer,
     rest: &mut Reading<'_>,
@@ -80,14 +80,14 @@ fn dress_piece(
     requires inside { most ≤ length rest.old }
     requires short { length out.old + most < 2 ^ 32 }
     ensures units { IfOk result (λ n. (1 ≤ n) × (n ≤ most)) }
-    ensures done { IfOk result (λ n. out.new ≡ out.old ++ map (λ c. dressed c attrs.now) (take n rest.old)) }
+    ensures done { IfOk result (λ n. out.new ≡ out.old ++ map (λ c. painted c attrs.now) (take n rest.old)) }
     ensures rest { IfOk result (λ n. rest.new ≡ drop n rest.old) }
 {
     match rest.take(most) {
         None => Ok(most),
         Some(stretch) => {
-            let dressed = stretch.attrs.apply_doc(alloc, attrs)?;
-            out.push(stretch.text, &dressed, Seam::Joined)?;
+            let painted = stretch.attrs.apply_doc(alloc, attrs)?;
+            out.push(stretch.text, &painted, Seam::Joined)?;
             Ok(stretch.text.len() as u32)
         }
     }
@@ -110,7 +110,7 @@ fn keep_bare(out: &mut Writer, rest: &mut Reading<'_>, units: u32) -> Result<(),
 }
 
 /// Moves so many cells after a map.
-fn keep_dressed(
+fn keep_painted(
     alloc: Global,
     out: &mut Writer,
     rest: &mut Reading<'_>,
@@ -119,12 +119,12 @@ fn keep_dressed(
 ) -> Result<(), NoMemory>
     requires inside { units ≤ length rest.old }
     requires short { length out.old + units < 2 ^ 32 }
-    ensures done { OnOk result (out.new ≡ out.old ++ map (λ c. dressed c attrs.now) (take units rest.old)) }
+    ensures done { OnOk result (out.new ≡ out.old ++ map (λ c. painted c attrs.now) (take units rest.old)) }
     ensures rest { OnOk result (rest.new ≡ drop units rest.old) }
 {
     let mut left = units;
     'pieces: while left > 0 {
-        left -= dress_piece(alloc, out, rest, left, attrs)?;
+        left -= paint_piece(alloc, out, rest, left, attrs)?;
     }
     Ok(())
 }
@@ -139,12 +139,12 @@ pub fn keep(
 ) -> Result<(), NoMemory>
     requires inside { units ≤ length rest.old }
     requires short { length out.old + units < 2 ^ 32 }
-    ensures done { OnOk result (out.new ≡ out.old ++ map (λ c. dressed c attrs.now) (take units rest.old)) }
+    ensures done { OnOk result (out.new ≡ out.old ++ map (λ c. painted c attrs.now) (take units rest.old)) }
     ensures rest { OnOk result (rest.new ≡ drop units rest.old) }
 {
     if attrs.is_none() {
         keep_bare(out, rest, units)
     } else {
-        keep_dressed(alloc, out, rest, units, attrs)
+        keep_painted(alloc, out, rest, units, attrs)
     }
 }

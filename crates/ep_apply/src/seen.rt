@@ -1,8 +1,8 @@
 //! What is seen of a text that is passed.
 
-ghost use Rattle.std.specs.Prelude.{◌≡◌, ◌≤◌, ◌<◌, ◌^◌, ◌+◌, ◌++◌, [], length};
+ghost use Rattle.std.specs.Prelude.{◌≡◌, ◌≤◌, ◌<◌, ◌^◌, ◌+◌, ◌-◌, ◌++◌, [], true, length, take, drop};
 ghost use Rattle.ep_units.specs.Text.{Text};
-ghost use Rattle.ep_cs.specs.Lines.{count_lines};
+ghost use Rattle.ep_cs.specs.Lines.{count_lines, is_whole_lines};
 ghost use Rattle.ep_apply.specs.Blocks.{Sees};
 ghost use Rattle.ep_apply.specs.PairEnds.{ends_high};
 
@@ -55,6 +55,21 @@ fn lines_of(text: &[u16]) -> u32
     }
 }
 
+/// How many units stand behind the last newline, of a text with so many newlines.
+fn tail_of(text: &[u16], lines: u32) -> u32
+    requires short { length text.now < 2 ^ 32 }
+    requires lines { lines ≡ count_lines text.now }
+    ensures within { result ≤ length text.now }
+    ensures before { is_whole_lines (take (length text.now - result) text.now) ≡ true }
+    ensures behind { count_lines (drop (length text.now - result) text.now) ≡ 0 }
+{
+    if lines == 0 {
+        text.len() as u32
+    } else {
+        (text.len() - last_line(text)) as u32
+    }
+}
+
 impl Seen {
     /// What is seen of no text.
     pub fn nothing() -> Seen
@@ -73,10 +88,11 @@ impl Seen {
         requires { length text.now < 2 ^ 32 }
         ensures { Sees result text.now }
     {
+        let lines = lines_of(text);
         Seen {
             units: text.len() as u32,
-            lines: lines_of(text),
-            tail: (text.len() - last_line(text)) as u32,
+            lines,
+            tail: tail_of(text, lines),
             high: ends_high(text),
         }
     }

@@ -18,10 +18,10 @@ use std::mem;
 use std::sync::Arc;
 
 /// How many units a block has at most.
-const MOST: usize = 1024;
+const MOST: usize = 512;
 
 /// In how large parts a text is put that is too long for a block, so that it may still grow.
-const PART: usize = 768;
+const PART: usize = 384;
 
 /// Blocks that are written, and one that is open.
 #[derive(Drop)]

@@ -1,4 +1,4 @@
--- What a walk over two lists of pairs makes, pair by pair.
+-- Working words of private contracts: what a walk over two lists of pairs makes, pair by pair.
 use Rattle.std.specs.Prelude.{List, [], ◌∷◌, Option, Some, None}
 use Rattle.std.specs.FinMap.Entries.{by_order}
 use Rattle.ep_units.specs.Text.{Text, text_cmp}

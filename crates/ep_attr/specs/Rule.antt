@@ -1,4 +1,4 @@
--- The value at a key by the values there in two maps, for each of the operations on maps.
+-- Working words of private contracts: the value at a key by the values there in two maps, for each of the operations on maps.
 use Rattle.std.specs.Prelude.{Option}
 use Rattle.ep_units.specs.Text.{Text}
 use Rattle.ep_attr.specs.AttrMap.{value_after, later_value, value_left}

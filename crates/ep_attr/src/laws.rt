@@ -5,7 +5,7 @@ ghost use Rattle.ep_units.specs.Text.{Text, text_eq};
 ghost use Rattle.ep_attr.specs.AttrMap.{AttrMap, Pair, none, get, of_pairs, value_after, later_value, earlier_value, value_left, after, join, early, rest};
 
 /// Maps with the same value at each key are equal.
-pub fn told_by_values()
+pub fn known_by_values()
     ensures { (m n : AttrMap) → ((key : Text) → get m key ≡ get n key) → m ≡ n }
 {}
 

@@ -11,6 +11,6 @@ mod walk;
 
 pub use attr_map::{Attr, AttrMap, follow_change};
 pub use laws::{
-    change_after_none, changes_made_one, follow_meets, joined_in_any_grouping, made_of_pairs,
-    told_by_values, values_of_maps,
+    change_after_none, changes_made_one, follow_meets, joined_in_any_grouping, known_by_values,
+    made_of_pairs, values_of_maps,
 };

@@ -1,4 +1,4 @@
--- The rule of a cell's table. Word 0 is the length of the history, word 1 the number of the next pass, and word 2 is 0 where the machine is at home.
+-- Working words of private contracts: the rule of a cell's table. Word 0 is the length of the history, word 1 the number of the next pass, and word 2 is 0 where the machine is at home.
 use Rattle.std.specs.Prelude.{ℕ, ◌≡◌, ◌≢◌, ◌<◌, ◌≤◌, Bool, true, false, List, [], ◌∷◌, length, if◌then◌else◌, nat_lt, Some}
 use mathlib.Core.Option as m
 use lib.ListN.{get_elem?}

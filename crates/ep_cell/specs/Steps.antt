@@ -1,4 +1,4 @@
--- What each kind of step of a cell tells its seat: of the word that was found, and of the seat before and after.
+-- Working words of private contracts: what each kind of step of a cell tells its seat: of the word that was found, and of the seat before and after.
 use Rattle.std.specs.Prelude.{ℕ, ◌≡◌, ◌≢◌, ◌≤◌, true, false, List, [], ◌∷◌, ◌++◌, length, Option, Some, None}
 use Rattle.atomic_table.specs.Table.{Me, Step}
 use Rattle.ep_cell.specs.declared.view.Call.{Call}

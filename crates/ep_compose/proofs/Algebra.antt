@@ -1,8 +1,8 @@
 -- The laws of edits, for changes that fit a document.
 use Rattle.std.proofs.Common.{◌≡◌, suc, ◌+◌, List, [], ◌∷◌, ◌++◌, map, length, refl, sym, ap, ◌∙◌, subst, arith, length-append}
 use Rattle.std.proofs.lemmas.List.{length-map}
-use Rattle.ep_cs.specs.Doc.{Cell, Doc, text_of, dressed}
-use Rattle.ep_cs.specs.Edit.{Fate, Place, Edit, Item, IsSettled, at_place, over, painted, apply, items, numbered, compose, identity}
+use Rattle.ep_cs.specs.Doc.{Cell, Doc, text_of, painted}
+use Rattle.ep_cs.specs.Edit.{Fate, Place, Edit, Item, IsSettled, at_place, over, painted_item, apply, items, numbered, compose, identity}
 use Rattle.ep_cs.specs.Edit.Fate.{Drop, Keep}
 use Rattle.ep_cs.specs.Edit.Item.{New}
 use Rattle.ep_cs.specs.Change.{Change, stamped}
@@ -14,7 +14,7 @@ use Rattle.ep_cursor.proofs.Starts.{edit_left}
 use Rattle.ep_compose.specs.Composed.{composed}
 
 -- an edit makes as much of lists of one length
-same_length : (ps : List Place) (last : List Cell) (xs : List Item) (doc : Doc) → length xs ≡ length doc → length (over painted New ps last xs) ≡ length (over dressed (λ c. c) ps last doc)
+same_length : (ps : List Place) (last : List Cell) (xs : List Item) (doc : Doc) → length xs ≡ length doc → length (over painted_item New ps last xs) ≡ length (over painted (λ c. c) ps last doc)
 same_length [] last xs doc e = length-map last New ∙ sym (length-map last (λ c. c))
 same_length (p ∷ ps) last [] [] e =
     length-append (map New p.before) _ ∙ (λ i. (length-map p.before New ∙ sym (length-map p.before (λ c. c))) i + same_length ps last [] [] refl i) ∙ sym (length-append (map (λ (c : Cell). c) p.before) _)
@@ -25,8 +25,8 @@ same_length (p ∷ ps) last (x ∷ xs) (c ∷ doc) e =
     ∙ (λ i. (length-map p.before New ∙ sym (length-map p.before (λ c. c))) i + place p.fate (same_length ps last xs doc (omega (arith, e))) i)
     ∙ sym (length-append (map (λ (c : Cell). c) p.before) _)
   where
-    place : (f : Fate) → length (over painted New ps last xs) ≡ length (over dressed (λ c. c) ps last doc)
-        → length (at_place painted New f x ++ over painted New ps last xs) ≡ length (at_place dressed (λ c. c) f c ++ over dressed (λ c. c) ps last doc)
+    place : (f : Fate) → length (over painted_item New ps last xs) ≡ length (over painted (λ c. c) ps last doc)
+        → length (at_place painted_item New f x ++ over painted_item New ps last xs) ≡ length (at_place painted (λ c. c) f c ++ over painted (λ c. c) ps last doc)
     place Drop h = h
     place (Keep m) h = ap suc h
 

@@ -2,8 +2,8 @@
 use Rattle.std.proofs.Common.{◌≡◌, ℕ, zero, suc, ◌≤◌, List, [], ◌∷◌, ◌++◌, map, length, take, drop, replicate, refl, sym, ap, ◌∙◌, arith}
 use Rattle.std.proofs.lemmas.List.{length-map}
 use Rattle.ep_attr.specs.AttrMap.{AttrMap, join}
-use Rattle.ep_cs.specs.Doc.{Cell, dressed}
-use Rattle.ep_cs.specs.Edit.{Fate, Step, Item, painted, inserts}
+use Rattle.ep_cs.specs.Doc.{Cell, painted}
+use Rattle.ep_cs.specs.Edit.{Fate, Step, Item, painted_item, inserts}
 use Rattle.ep_cs.specs.Edit.Fate.{Drop, Keep}
 use Rattle.ep_cs.specs.Edit.Step.{Pass}
 use Rattle.ep_cs.specs.Edit.Item.{New}
@@ -20,48 +20,48 @@ times k f = replicate k (Pass f)
 -- s of the first change and then t of the second do what n does
 pub record IsArm (s t n : List Step) : Type 0 where
   pub same : (a b : List Step) (xs : List Item) → passed s ≤ length xs
-      → run painted New (t ++ b) (run painted New (s ++ a) xs) ≡ run painted New n (take (passed s) xs) ++ run painted New b (run painted New a (drop (passed s) xs))
+      → run painted_item New (t ++ b) (run painted_item New (s ++ a) xs) ≡ run painted_item New n (take (passed s) xs) ++ run painted_item New b (run painted_item New a (drop (passed s) xs))
   pub places : passed n ≡ passed s
   pub fits : given s ≡ passed t
   pub made : given n ≡ given t
 
 both_keep : (k : ℕ) (m c : AttrMap) (a b : List Step) (xs : List Item) → k ≤ length xs
-    → run painted New (times k (Keep c) ++ b) (run painted New (times k (Keep m) ++ a) xs) ≡ run painted New (times k (Keep (join m c))) (take k xs) ++ run painted New b (run painted New a (drop k xs))
+    → run painted_item New (times k (Keep c) ++ b) (run painted_item New (times k (Keep m) ++ a) xs) ≡ run painted_item New (times k (Keep (join m c))) (take k xs) ++ run painted_item New b (run painted_item New a (drop k xs))
 both_keep zero m c a b xs h = refl
 both_keep (suc k) m c a b [] h = absurd (omega (arith, h))
 both_keep (suc k) m c a b (x ∷ xs) h = λ i. items_act.twice x m c i ∷ both_keep k m c a b xs (omega (arith, h)) i
 
 keep_drop : (k : ℕ) (m : AttrMap) (a b : List Step) (xs : List Item) → k ≤ length xs
-    → run painted New (times k Drop ++ b) (run painted New (times k (Keep m) ++ a) xs) ≡ run painted New (times k Drop) (take k xs) ++ run painted New b (run painted New a (drop k xs))
+    → run painted_item New (times k Drop ++ b) (run painted_item New (times k (Keep m) ++ a) xs) ≡ run painted_item New (times k Drop) (take k xs) ++ run painted_item New b (run painted_item New a (drop k xs))
 keep_drop zero m a b xs h = refl
 keep_drop (suc k) m a b [] h = absurd (omega (arith, h))
 keep_drop (suc k) m a b (x ∷ xs) h = keep_drop k m a b xs (omega (arith, h))
 
 drop_first : (k : ℕ) (a b : List Step) (xs : List Item) → k ≤ length xs
-    → run painted New b (run painted New (times k Drop ++ a) xs) ≡ run painted New (times k Drop) (take k xs) ++ run painted New b (run painted New a (drop k xs))
+    → run painted_item New b (run painted_item New (times k Drop ++ a) xs) ≡ run painted_item New (times k Drop) (take k xs) ++ run painted_item New b (run painted_item New a (drop k xs))
 drop_first zero a b xs h = refl
 drop_first (suc k) a b [] h = absurd (omega (arith, h))
 drop_first (suc k) a b (x ∷ xs) h = drop_first k a b xs (omega (arith, h))
 
 insert_keep : (cs : List Cell) (c : AttrMap) (a b : List Step) (xs : List Item)
-    → run painted New (times (length cs) (Keep c) ++ b) (run painted New (inserts cs ++ a) xs) ≡ run painted New (inserts (map (λ d. dressed d c) cs)) [] ++ run painted New b (run painted New a xs)
+    → run painted_item New (times (length cs) (Keep c) ++ b) (run painted_item New (inserts cs ++ a) xs) ≡ run painted_item New (inserts (map (λ d. painted d c) cs)) [] ++ run painted_item New b (run painted_item New a xs)
 insert_keep [] c a b xs = refl
 insert_keep (d ∷ cs) c a b xs = λ i. items_act.at_new d c i ∷ insert_keep cs c a b xs i
 
-insert_drop : (cs : List Cell) (a b : List Step) (xs : List Item) → run painted New (times (length cs) Drop ++ b) (run painted New (inserts cs ++ a) xs) ≡ run painted New b (run painted New a xs)
+insert_drop : (cs : List Cell) (a b : List Step) (xs : List Item) → run painted_item New (times (length cs) Drop ++ b) (run painted_item New (inserts cs ++ a) xs) ≡ run painted_item New b (run painted_item New a xs)
 insert_drop [] a b xs = refl
 insert_drop (d ∷ cs) a b xs = insert_drop cs a b xs
 
 insert_second : (cs : List Cell) (a b : List Step) (xs : List Item)
-    → run painted New (inserts cs ++ b) (run painted New a xs) ≡ run painted New (inserts cs) [] ++ run painted New b (run painted New a xs)
+    → run painted_item New (inserts cs ++ b) (run painted_item New a xs) ≡ run painted_item New (inserts cs) [] ++ run painted_item New b (run painted_item New a xs)
 insert_second cs a b xs =
-    run_inserts painted New cs b (run painted New a xs)
-    ∙ ap (λ ys. ys ++ run painted New b (run painted New a xs)) (sym (run_only_inserts painted New cs []))
+    run_inserts painted_item New cs b (run painted_item New a xs)
+    ∙ ap (λ ys. ys ++ run painted_item New b (run painted_item New a xs)) (sym (run_only_inserts painted_item New cs []))
 
 -- at any number of places that is the right one
 at_places : (n : List Step) (a b : List Step) (xs : List Item) (l r : ℕ) (whole : List Item) → l ≡ r
-    → whole ≡ run painted New n (take l xs) ++ run painted New b (run painted New a (drop l xs)) → whole ≡ run painted New n (take r xs) ++ run painted New b (run painted New a (drop r xs))
-at_places n a b xs l r whole e h = h ∙ ap (λ (j : ℕ). run painted New n (take j xs) ++ run painted New b (run painted New a (drop j xs))) e
+    → whole ≡ run painted_item New n (take l xs) ++ run painted_item New b (run painted_item New a (drop l xs)) → whole ≡ run painted_item New n (take r xs) ++ run painted_item New b (run painted_item New a (drop r xs))
+at_places n a b xs l r whole e h = h ∙ ap (λ (j : ℕ). run painted_item New n (take j xs) ++ run painted_item New b (run painted_item New a (drop j xs))) e
 
 pub arm_keep_keep : (k : ℕ) (m c : AttrMap) → IsArm (times k (Keep m)) (times k (Keep c)) (times k (Keep (join m c)))
 arm_keep_keep k m c =
@@ -93,19 +93,19 @@ arm_drop k =
       made = given_dropped k;
     }
 
-pub arm_insert_keep : (cs : List Cell) (k : ℕ) (c : AttrMap) → length cs ≡ k → IsArm (inserts cs) (times k (Keep c)) (inserts (map (λ d. dressed d c) cs))
+pub arm_insert_keep : (cs : List Cell) (k : ℕ) (c : AttrMap) → length cs ≡ k → IsArm (inserts cs) (times k (Keep c)) (inserts (map (λ d. painted d c) cs))
 arm_insert_keep cs k c e =
-    let n = inserts (map (λ d. dressed d c) cs) in
+    let n = inserts (map (λ d. painted d c) cs) in
     record {
-      same = λ a b xs h. at_places n a b xs 0 (passed (inserts cs)) _ (sym (passed_new cs)) (ap (λ (j : ℕ). run painted New (times j (Keep c) ++ b) (run painted New (inserts cs ++ a) xs)) (sym e) ∙ insert_keep cs c a b xs);
-      places = passed_new (map (λ d. dressed d c) cs) ∙ sym (passed_new cs);
+      same = λ a b xs h. at_places n a b xs 0 (passed (inserts cs)) _ (sym (passed_new cs)) (ap (λ (j : ℕ). run painted_item New (times j (Keep c) ++ b) (run painted_item New (inserts cs ++ a) xs)) (sym e) ∙ insert_keep cs c a b xs);
+      places = passed_new (map (λ d. painted d c) cs) ∙ sym (passed_new cs);
       fits = given_new cs ∙ e ∙ sym (passed_times k (Keep c));
-      made = given_new (map (λ d. dressed d c) cs) ∙ length-map cs (λ d. dressed d c) ∙ e ∙ sym (given_kept k c);
+      made = given_new (map (λ d. painted d c) cs) ∙ length-map cs (λ d. painted d c) ∙ e ∙ sym (given_kept k c);
     }
 
 pub arm_insert_drop : (cs : List Cell) (k : ℕ) → length cs ≡ k → IsArm (inserts cs) (times k Drop) []
 arm_insert_drop cs k e = record {
-  same = λ a b xs h. at_places [] a b xs 0 (passed (inserts cs)) _ (sym (passed_new cs)) (ap (λ (j : ℕ). run painted New (times j Drop ++ b) (run painted New (inserts cs ++ a) xs)) (sym e) ∙ insert_drop cs a b xs);
+  same = λ a b xs h. at_places [] a b xs 0 (passed (inserts cs)) _ (sym (passed_new cs)) (ap (λ (j : ℕ). run painted_item New (times j Drop ++ b) (run painted_item New (inserts cs ++ a) xs)) (sym e) ∙ insert_drop cs a b xs);
   places = sym (passed_new cs);
   fits = given_new cs ∙ e ∙ sym (passed_times k Drop);
   made = sym (given_dropped k);

@@ -4,7 +4,7 @@ use Rattle.std.proofs.lemmas.List.{length-take-le, length-map}
 use Rattle.ep_units.specs.Text.{Text}
 use Rattle.ep_attr.specs.AttrMap.{AttrMap, none, after, join}
 use Rattle.ep_attr.proofs.Maps.{after-after}
-use Rattle.ep_cs.specs.Doc.{Cell, dressed}
+use Rattle.ep_cs.specs.Doc.{Cell, painted}
 use Rattle.ep_cs.specs.Edit.{inserts}
 use Rattle.ep_cs.specs.Edit.Fate.{Drop, Keep}
 use Rattle.ep_cs.specs.Edit.Step.{Insert}
@@ -113,9 +113,9 @@ bare_after d c e =
     let one : after d c ≡ after none (join d c) = ap (λ x. after x c) e ∙ after-after none d c in
     ap (after none) one ∙ sym (once (join d c)) ∙ sym one
 
-dressed_after : (d c : AttrMap) (text : Text) → d ≡ after none d → map (λ x. dressed x c) (cells d text) ≡ cells (after none (after d c)) text
-dressed_after d c [] e = refl
-dressed_after d c (u ∷ us) e = λ i. record { unit = u; attrs = sym (bare_after d c e) i } ∷ dressed_after d c us e i
+painted_after : (d c : AttrMap) (text : Text) → d ≡ after none d → map (λ x. painted x c) (cells d text) ≡ cells (after none (after d c)) text
+painted_after d c [] e = refl
+painted_after d c (u ∷ us) e = λ i. record { unit = u; attrs = sym (bare_after d c e) i } ∷ painted_after d c us e i
 
 pub inserted_then_kept : (out : Draft) (a b : Left) (k j n lo m lp : ℕ) (d c : AttrMap) (os ps : List Op)
     → a.ops ≡ inserting_run n lo d ∷ os → b.ops ≡ keeps m lp c ∷ ps → IsShorter k j n lo m lp → 1 ≤ k → d ≡ after none d → n ≤ length a.bank → CanGo out a b
@@ -128,7 +128,7 @@ inserted_then_kept out a b k j n lo m lp d c os ps ea eb h some bare full go =
     let wide : length cs ≡ k = length-map text _ ∙ length-take-le k a.bank (omega (arith, kn, full)) in
     let cut = left_cut a (inserting_run n lo d) os k j ea kn in
     goes out (inserting out text (after d c)) a b (advanced k j a) (advanced k j b) (inserts cs) (times k (Keep c)) (inserts ds)
-    (subst (λ (x : List Cell). IsArm (inserts cs) (times k (Keep c)) (inserts x)) (dressed_after d c text bare) (arm_insert_keep cs k c wide))
+    (subst (λ (x : List Cell). IsArm (inserts cs) (times k (Keep c)) (inserts x)) (painted_after d c text bare) (arm_insert_keep cs k c wide))
     cut (left_cut b (keeps m lp c) ps k j eb (inside_second k j n lo m lp h)) refl refl go
     (omega (arith, some, wide, length-map cs Insert))
     (λ us far t.

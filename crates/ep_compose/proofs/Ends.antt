@@ -1,8 +1,8 @@
 -- A composition from its start to its end.
 use Rattle.std.proofs.Common.{◌≡◌, ℕ, zero, suc, ◌+◌, ◌-◌, ◌<◌, ◌≤◌, ◌^◌, Bool, true, false, MatchBool, true≢false, List, [], ◌∷◌, ◌++◌, length, take, drop, refl, sym, ap, ◌∙◌, subst, arith, length-drop}
 use Rattle.ep_attr.specs.AttrMap.{none}
-use Rattle.ep_cs.specs.Doc.{Doc, text_of, dressed}
-use Rattle.ep_cs.specs.Edit.{Edit, Step, Item, apply, apply_items, compose, edit_of, items, numbered, painted}
+use Rattle.ep_cs.specs.Doc.{Doc, text_of, painted}
+use Rattle.ep_cs.specs.Edit.{Edit, Step, Item, apply, apply_items, compose, edit_of, items, numbered, painted_item}
 use Rattle.ep_cs.specs.Edit.Fate.{Drop, Keep}
 use Rattle.ep_cs.specs.Edit.Step.{Insert, Pass}
 use Rattle.ep_cs.specs.Edit.Item.{New}
@@ -29,13 +29,13 @@ use Rattle.ep_compose.proofs.Pieces.{composed_documents}
 
 -- ---- the start
 
-acts : (c : Change) → IsNormal c → (xs : List Item) → run painted New (steps_left (left_of c)) xs ≡ apply_items c.edit xs
-acts c n xs = sym (over-settle painted New [] (steps_left (left_of c)) xs) ∙ ap (λ (e : Edit). apply_items e xs) (sym (edit_left c n))
+acts : (c : Change) → IsNormal c → (xs : List Item) → run painted_item New (steps_left (left_of c)) xs ≡ apply_items c.edit xs
+acts c n xs = sym (over-settle painted_item New [] (steps_left (left_of c)) xs) ∙ ap (λ (e : Edit). apply_items e xs) (sym (edit_left c n))
 
 length_after : (c : Change) → IsNormal c → (doc : Doc) → length doc ≡ length c.edit.places → length (apply c.edit doc) ≡ given (steps_left (left_of c))
 length_after c n doc e =
     let s = steps_left (left_of c) in
-    ap (λ (e : Edit). length (apply e doc)) (edit_left c n) ∙ ap length (over-settle dressed (λ c. c) [] s doc) ∙ length-run dressed (λ c. c) s doc (omega (arith, passed_left c n, e))
+    ap (λ (e : Edit). length (apply e doc)) (edit_left c n) ∙ ap length (over-settle painted (λ c. c) [] s doc) ∙ length-run painted (λ c. c) s doc (omega (arith, passed_left c n, e))
 
 true_start : (p q : Change) → IsNormal p → IsNormal q → (doc : Doc) → Fits p doc → Fits q (apply p.edit doc) → AreTrueOf (blank (length p.edit.places)) (left_of p) (left_of q) (text_of doc)
 true_start p q np nq doc fp fq = record {
@@ -47,7 +47,7 @@ true_start p q np nq doc fp fq = record {
 pub starts : (p q : Change) → IsNormal p → IsNormal q → (doc : Doc) → Fits p doc → Fits q (apply p.edit doc) → IsComposing p q (blank (length p.edit.places)) (left_of p) (left_of q)
 starts p q np nq doc fp fq = record {
   old = refl;
-  same = λ xs e. ap (run painted New (steps_left (left_of q))) (acts p np xs) ∙ acts q nq (apply_items p.edit xs);
+  same = λ xs e. ap (run painted_item New (steps_left (left_of q))) (acts p np xs) ∙ acts q nq (apply_items p.edit xs);
   go = record {
     places = omega (arith, passed_left p np);
     fits = sym (length_after p np doc fp.length) ∙ fq.length ∙ sym (passed_left q nq);
@@ -78,14 +78,14 @@ goes_on p q out out' a b a' b' c h = record {
 
 -- ---- the end
 
-rest_same : (r : ℕ) (ys : List Item) → length ys ≡ r → run painted New (rest_kept r) ys ≡ ys
+rest_same : (r : ℕ) (ys : List Item) → length ys ≡ r → run painted_item New (rest_kept r) ys ≡ ys
 rest_same zero [] e = refl
 rest_same zero (y ∷ ys) e = absurd (omega (arith, e))
 rest_same (suc r) [] e = absurd (omega (arith, e))
 rest_same (suc r) (y ∷ ys) e = λ i. items_act.nothing y i ∷ rest_same r ys (omega (arith, e)) i
 
-rest_acts : (l : Left) (ys : List Item) → l.ops ≡ [] → length ys ≡ passed (steps_left l) → run painted New (steps_left l) ys ≡ ys
-rest_acts l ys e long = ap (λ s. run painted New s ys) (rest_left l e) ∙ rest_same l.rest ys (long ∙ (places_of_rest l e).0)
+rest_acts : (l : Left) (ys : List Item) → l.ops ≡ [] → length ys ≡ passed (steps_left l) → run painted_item New (steps_left l) ys ≡ ys
+rest_acts l ys e long = ap (λ s. run painted_item New s ys) (rest_left l e) ∙ rest_same l.rest ys (long ∙ (places_of_rest l e).0)
 
 -- what is written is the composition
 pub ended : (p q : Change) (out : Draft) (a b : Left) → IsComposing p q out a b → a.ops ≡ [] → b.ops ≡ [] → (drafted out).edit ≡ compose p.edit q.edit
@@ -117,17 +117,17 @@ ended p q out a b c ea eb =
     many : length behind ≡ left
     many = length-drop (passed out.steps) xs ∙ ap (λ (n : ℕ). n - passed out.steps) (length-numbered 0 out.old)
 
-    through : run painted New (steps_left b) (run painted New (steps_left a) behind) ≡ behind
+    through : run painted_item New (steps_left b) (run painted_item New (steps_left a) behind) ≡ behind
     through =
         let first = rest_acts a behind ea (omega (arith, many, c.go.places)) in
-        ap (run painted New (steps_left b)) first ∙ rest_acts b behind eb (omega (arith, many, c.go.places, c.go.fits, (places_of_rest a ea).0, (places_of_rest a ea).1))
+        ap (run painted_item New (steps_left b)) first ∙ rest_acts b behind eb (omega (arith, many, c.go.places, c.go.fits, (places_of_rest a ea).0, (places_of_rest a ea).1))
 
     told : items e ≡ apply_items q.edit (items p.edit)
     told =
         ap (λ (n : ℕ). apply_items e (numbered 0 n)) long
-        ∙ over-settle painted New [] all xs
-        ∙ run-append painted New out.steps (rest_kept left) xs
-        ∙ ap (λ ys. run painted New out.steps (take (passed out.steps) xs) ++ ys) (rest_same left behind many ∙ sym through)
+        ∙ over-settle painted_item New [] all xs
+        ∙ run-append painted_item New out.steps (rest_kept left) xs
+        ∙ ap (λ ys. run painted_item New out.steps (take (passed out.steps) xs) ++ ys) (rest_same left behind many ∙ sym through)
         ∙ c.same xs (length-numbered 0 out.old)
         ∙ ap (λ (n : ℕ). apply_items q.edit (apply_items p.edit (numbered 0 n))) c.old
 

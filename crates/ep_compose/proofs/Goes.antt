@@ -2,7 +2,7 @@
 use Rattle.std.proofs.Common.{◌≡◌, ℕ, ◌+◌, ◌≤◌, List, ◌++◌, length, take, drop, sym, ap, ◌∙◌, arith, append_assoc, take-take, drop-drop, length-drop, length-append}
 use Rattle.std.proofs.lemmas.List.{drop-take}
 use Rattle.ep_units.specs.Text.{Text}
-use Rattle.ep_cs.specs.Edit.{Step, Item, painted}
+use Rattle.ep_cs.specs.Edit.{Step, Item, painted_item}
 use Rattle.ep_cs.specs.Edit.Item.{New}
 use Rattle.ep_cs.specs.Steps.{passed, run}
 use Rattle.ep_cs.specs.Draft.{Draft}
@@ -16,14 +16,14 @@ same_whole : (o n s t a b : List Step) (xs : List Item) → IsArm s t n → pass
 same_whole o n s t a b xs arm h =
     let p = passed o in
     let q = passed n in
-    ap (λ (k : ℕ). run painted New (o ++ n) (take k xs) ++ run painted New b (run painted New a (drop k xs))) (passed-append o n)
-    ∙ ap (λ ys. ys ++ run painted New b (run painted New a (drop (p + q) xs))) (run-append painted New o n (take (p + q) xs))
-    ∙ append_assoc (run painted New o (take p (take (p + q) xs))) _ _
-    ∙ ap (λ ys. run painted New o ys ++ (run painted New n (drop p (take (p + q) xs)) ++ run painted New b (run painted New a (drop (p + q) xs)))) (take-take p (p + q) xs (omega arith))
-    ∙ ap (λ zs. run painted New o (take p xs) ++ zs)
-    (ap (λ ys. run painted New n ys ++ run painted New b (run painted New a (drop (p + q) xs))) (drop-take p q xs)
-    ∙ ap (λ ys. run painted New n (take q (drop p xs)) ++ run painted New b (run painted New a ys)) (sym (drop-drop q p xs))
-    ∙ ap (λ (k : ℕ). run painted New n (take k (drop p xs)) ++ run painted New b (run painted New a (drop k (drop p xs)))) arm.places
+    ap (λ (k : ℕ). run painted_item New (o ++ n) (take k xs) ++ run painted_item New b (run painted_item New a (drop k xs))) (passed-append o n)
+    ∙ ap (λ ys. ys ++ run painted_item New b (run painted_item New a (drop (p + q) xs))) (run-append painted_item New o n (take (p + q) xs))
+    ∙ append_assoc (run painted_item New o (take p (take (p + q) xs))) _ _
+    ∙ ap (λ ys. run painted_item New o ys ++ (run painted_item New n (drop p (take (p + q) xs)) ++ run painted_item New b (run painted_item New a (drop (p + q) xs)))) (take-take p (p + q) xs (omega arith))
+    ∙ ap (λ zs. run painted_item New o (take p xs) ++ zs)
+    (ap (λ ys. run painted_item New n ys ++ run painted_item New b (run painted_item New a (drop (p + q) xs))) (drop-take p q xs)
+    ∙ ap (λ ys. run painted_item New n (take q (drop p xs)) ++ run painted_item New b (run painted_item New a ys)) (sym (drop-drop q p xs))
+    ∙ ap (λ (k : ℕ). run painted_item New n (take k (drop p xs)) ++ run painted_item New b (run painted_item New a (drop k (drop p xs)))) arm.places
     ∙ sym (arm.same a b (drop p xs) h))
 
 -- s of the first change and t of the second are taken, and n is written

@@ -1,4 +1,4 @@
--- What the calls of a step need and do, told of the heads.
+-- What the calls of a step need and do, said of the heads.
 use Rattle.std.proofs.Common.{◌≡◌, ℕ, ◌+◌, ◌<◌, ◌≤◌, ◌^◌, List, [], ◌∷◌, ◌++◌, length, take, drop, sym, ap, ◌∙◌, subst, arith, take-take, append-nil}
 use Rattle.std.proofs.lemmas.List.{length-take, length-take-le, length-map}
 use Rattle.ep_units.specs.Text.{Text}

@@ -4,7 +4,7 @@ use Rattle.std.proofs.lemmas.List.{length-take-le, length-map, length-replicate}
 use Rattle.ep_units.specs.Text.{Text}
 use Rattle.ep_attr.specs.AttrMap.{AttrMap, none, after}
 use Rattle.ep_attr.proofs.Maps.{after-none, join-none, none-join}
-use Rattle.ep_cs.specs.Doc.{Cell, dressed}
+use Rattle.ep_cs.specs.Doc.{Cell, painted}
 use Rattle.ep_cs.specs.Edit.{Fate, Step, inserts}
 use Rattle.ep_cs.specs.Edit.Fate.{Drop, Keep}
 use Rattle.ep_cs.specs.Edit.Step.{Insert, Pass}
@@ -172,9 +172,9 @@ kept_then_rest out a b n l m os ea eb some go =
       (said_times (advanced n l a) n (Keep m) w (left_said a (keeps n l m) os w n l ea (omega arith) t.first (λ h. absurd (omega (arith, h)))), rest_said (skipped n b) v eb),
     )))
 
-dressed_bare : (m : AttrMap) (text : Text) → m ≡ after none m → map (λ d. dressed d none) (cells m text) ≡ cells (after none m) text
-dressed_bare m [] e = refl
-dressed_bare m (u ∷ us) e = ap₂ (λ (x : AttrMap) (cs : List Cell). record { unit = u; attrs = x } ∷ cs) (after-none m ∙ e) (dressed_bare m us e)
+painted_bare : (m : AttrMap) (text : Text) → m ≡ after none m → map (λ d. painted d none) (cells m text) ≡ cells (after none m) text
+painted_bare m [] e = refl
+painted_bare m (u ∷ us) e = ap₂ (λ (x : AttrMap) (cs : List Cell). record { unit = u; attrs = x } ∷ cs) (after-none m ∙ e) (painted_bare m us e)
 
 pub inserted_then_rest : (out : Draft) (a b : Left) (n l : ℕ) (m : AttrMap) (os : List Op) (text : Text) → a.ops ≡ inserting_run n l m ∷ os → b.ops ≡ [] → text ≡ take n a.bank
     → length text ≡ n → 1 ≤ n → m ≡ after none m → CanGo out a b
@@ -186,7 +186,7 @@ inserted_then_rest out a b n l m os text ea eb is long some bare go =
     let arm = arm_insert_keep cs n none wide in
     let room : n ≤ b.rest = omega (arith, within_second_rest out a b (inserts cs) (steps_left (advanced n l a)) eb cut go, arm.fits, passed_times n (Keep none)) in
     let rest = rest_cut b n eb room in
-    goes out (inserting out text m) a b (advanced n l a) (skipped n b) (inserts cs) (times n (Keep none)) (inserts (cells (after none m) text)) (subst (λ ds. IsArm (inserts cs) (times n (Keep none)) (inserts ds)) (dressed_bare m text bare) arm) cut rest refl refl go
+    goes out (inserting out text m) a b (advanced n l a) (skipped n b) (inserts cs) (times n (Keep none)) (inserts (cells (after none m) text)) (subst (λ ds. IsArm (inserts cs) (times n (Keep none)) (inserts ds)) (painted_bare m text bare) arm) cut rest refl refl go
     (omega (arith, some, wide, length-map cs Insert))
     (λ us far t.
     let w = drop (passed out.steps) us in

@@ -4,7 +4,7 @@ use Rattle.std.proofs.lemmas.List.{map-append, length-map, length-take-le}
 use Rattle.ep_units.specs.Text.{Text, is_high, is_low, is_paired, is_well_formed}
 use Rattle.ep_attr.specs.AttrMap.{AttrMap}
 use Rattle.ep_attr.proofs.SameMap.{both_true, first_true, second_true}
-use Rattle.ep_cs.specs.Doc.{Cell, Doc, text_of, dressed, is_document}
+use Rattle.ep_cs.specs.Doc.{Cell, Doc, text_of, painted, is_document}
 use Rattle.ep_cs.specs.Edit.{Fate, Place, Edit, Step, at_place, over, apply, inserts, steps_from, steps_of, pieces, step_over_new, steps_over, compose}
 use Rattle.ep_cs.specs.Edit.Fate.{Drop, Keep}
 use Rattle.ep_cs.specs.Edit.Step.{Insert, Pass}
@@ -18,7 +18,7 @@ blocks_wait w (c ∷ cs) s h = blocks_wait (w ++ c ∷ []) cs s (subst (λ (v : 
 
 -- what the second edit makes of a piece of the first
 abbrev made : List Place → List Cell → List Cell
-made qs cs = over dressed (λ c. c) (take (length cs) qs) [] cs
+made qs cs = over painted (λ c. c) (take (length cs) qs) [] cs
 
 steps_over_piece : (cs : List Cell) (t : List Step) (qs : List Place) (last : List Cell) → length cs ≤ length qs
     → steps_over (inserts cs ++ t) qs last ≡ inserts (made qs cs) ++ steps_over t (drop (length cs) qs) last
@@ -33,7 +33,7 @@ steps_over_piece (c ∷ cs) t (q ∷ qs) last h =
     rest : List Step
     rest = steps_over t (drop (length cs) qs) last
 
-    at : (f : Fate) → step_over_new c f ++ inserts (made qs cs) ≡ inserts (at_place dressed (λ c. c) f c ++ made qs cs)
+    at : (f : Fate) → step_over_new c f ++ inserts (made qs cs) ≡ inserts (at_place painted (λ c. c) f c ++ made qs cs)
     at Drop = refl
     at (Keep m) = refl
 
@@ -41,11 +41,11 @@ steps_over_piece (c ∷ cs) t (q ∷ qs) last h =
     same [] = refl
     same (d ∷ ds) = ap (λ es. d ∷ es) (same ds)
 
-    whole : (f : Fate) → inserts q.before ++ (step_over_new c f ++ inserts (made qs cs)) ≡ inserts (map (λ (d : Cell). d) q.before ++ (at_place dressed (λ c. c) f c ++ made qs cs))
+    whole : (f : Fate) → inserts q.before ++ (step_over_new c f ++ inserts (made qs cs)) ≡ inserts (map (λ (d : Cell). d) q.before ++ (at_place painted (λ c. c) f c ++ made qs cs))
     whole f =
         ap (λ s. inserts q.before ++ s) (at f)
-        ∙ sym (map-append Insert q.before (at_place dressed (λ c. c) f c ++ made qs cs))
-        ∙ ap (λ ds. inserts (ds ++ (at_place dressed (λ c. c) f c ++ made qs cs))) (sym (same q.before))
+        ∙ sym (map-append Insert q.before (at_place painted (λ c. c) f c ++ made qs cs))
+        ∙ ap (λ ds. inserts (ds ++ (at_place painted (λ c. c) f c ++ made qs cs))) (sym (same q.before))
 
 documents_front : (n : ℕ) (qs : List Place) (last : List Cell) → AreDocuments qs last → AreDocuments (take n qs) []
 documents_front zero qs last h = refl
@@ -104,8 +104,8 @@ length_behind : (cs : List Cell) (rest : Doc) → length (map (λ (c : Cell). c)
 length_behind [] rest = omega arith
 length_behind (c ∷ cs) rest = omega (arith, length_behind cs rest)
 
-blocks_over : (ps : List Place) (la : List Cell) (qs : List Place) (lb : List Cell) (doc : Doc) → length doc ≡ length ps → length (over dressed (λ c. c) ps la doc) ≡ length qs
-    → AreDocuments ps la → AreDocuments qs lb → keeps_pairs qs (text_of (over dressed (λ c. c) ps la doc)) ≡ true
+blocks_over : (ps : List Place) (la : List Cell) (qs : List Place) (lb : List Cell) (doc : Doc) → length doc ≡ length ps → length (over painted (λ c. c) ps la doc) ≡ length qs
+    → AreDocuments ps la → AreDocuments qs lb → keeps_pairs qs (text_of (over painted (λ c. c) ps la doc)) ≡ true
     → AreBlocks [] (steps_over (steps_from ps la) qs lb)
 blocks_over [] la qs lb doc n m d e keeps =
     let long : length la ≡ length qs = sym (length-map la (λ c. c)) ∙ m in
@@ -126,7 +126,7 @@ blocks_over (p ∷ ps) la qs lb [] n m d e keeps = absurd (omega (arith, n))
 blocks_over (p ∷ ps) la qs lb (c ∷ doc) n m d e keeps = go p.fate m keeps (λ rs l b t. blocks_over ps la rs lb doc (omega (arith, n)) l d.1 b t)
   where
     rest : Doc
-    rest = over dressed (λ c. c) ps la doc
+    rest = over painted (λ c. c) ps la doc
 
     steps : Fate → List Step
     steps f = Pass f ∷ steps_from ps la
@@ -141,8 +141,8 @@ blocks_over (p ∷ ps) la qs lb (c ∷ doc) n m d e keeps = go p.fate m keeps (�
         blocks_wait (made qs p.before) r.before _
         (documents-append (made qs p.before) r.before w b.0, later rs (omega (arith, l)) b.1 (second_true (not (is_high c.unit) || goes_on r.fate rs) _ t))
 
-    go : (f : Fate) → length (map (λ (c : Cell). c) p.before ++ (at_place dressed (λ c. c) f c ++ rest)) ≡ length qs
-        → keeps_pairs qs (text_of (map (λ (c : Cell). c) p.before ++ (at_place dressed (λ c. c) f c ++ rest))) ≡ true
+    go : (f : Fate) → length (map (λ (c : Cell). c) p.before ++ (at_place painted (λ c. c) f c ++ rest)) ≡ length qs
+        → keeps_pairs qs (text_of (map (λ (c : Cell). c) p.before ++ (at_place painted (λ c. c) f c ++ rest))) ≡ true
         → Later → AreBlocks [] (steps_over (inserts p.before ++ steps f) qs lb)
     go Drop m keeps later =
         let long = length_behind p.before rest in
@@ -150,8 +150,8 @@ blocks_over (p ∷ ps) la qs lb (c ∷ doc) n m d e keeps = go p.fate m keeps (�
         subst (AreBlocks []) (sym (steps_over_piece p.before (steps Drop) qs lb o.inside))
         (blocks_wait [] (made qs p.before) _ (o.document, later (drop (length p.before) qs) (omega (arith, length-drop (length p.before) qs, long, m)) o.behind o.later))
     go (Keep k) m keeps later =
-        let long = length_behind p.before (dressed c k ∷ rest) in
-        let o = piece_over p.before qs lb (c.unit ∷ text_of rest) (omega (arith, long, m)) d.0 e (ap (keeps_pairs qs) (sym (text_behind p.before (dressed c k ∷ rest))) ∙ keeps) in
+        let long = length_behind p.before (painted c k ∷ rest) in
+        let o = piece_over p.before qs lb (c.unit ∷ text_of rest) (omega (arith, long, m)) d.0 e (ap (keeps_pairs qs) (sym (text_behind p.before (painted c k ∷ rest))) ∙ keeps) in
         subst (AreBlocks []) (sym (steps_over_piece p.before (steps (Keep k)) qs lb o.inside))
         (blocks_wait [] (made qs p.before) _
         (place k (drop (length p.before) qs) (omega (arith, length-drop (length p.before) qs, long, m)) o.behind o.later o.document later))

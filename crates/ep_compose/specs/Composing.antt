@@ -1,8 +1,8 @@
--- Where a composition is: what is written, and what is left of the two changes.
+-- Working words of private contracts: where a composition is: what is written, and what is left of the two changes.
 use Rattle.std.specs.Prelude.{◌≡◌, [], ◌+◌, ◌<◌, ◌^◌, List, ◌++◌, length, take, drop}
 use Rattle.ep_units.specs.Text.{Text}
 use Rattle.ep_cs.specs.Doc.{Doc, text_of}
-use Rattle.ep_cs.specs.Edit.{Step, Item, painted, apply, apply_items}
+use Rattle.ep_cs.specs.Edit.{Step, Item, painted_item, apply, apply_items}
 use Rattle.ep_cs.specs.Edit.Item.{New}
 use Rattle.ep_cs.specs.Steps.{passed, run}
 use Rattle.ep_cs.specs.Change.{Change}
@@ -15,7 +15,7 @@ use Rattle.ep_cursor.specs.TrueDraft.{IsTrueDraft}
 
 -- what is written, and then what the rest of b makes of what the rest of a makes
 abbrev pub whole : List Step → List Step → List Step → List Item → List Item
-whole out a b xs = run painted New out (take (passed out) xs) ++ run painted New b (run painted New a (drop (passed out) xs))
+whole out a b xs = run painted_item New out (take (passed out) xs) ++ run painted_item New b (run painted_item New a (drop (passed out) xs))
 
 -- what was written and what is left are true of a text
 pub record AreTrueOf (out : Draft) (a b : Left) (us : Text) : Type 0 where

@@ -2,7 +2,7 @@
 use Rattle.std.proofs.Common.{◌≡◌, suc, List, [], ◌∷◌, ◌++◌, map, length, refl, sym, ap, ◌∙◌, arith, append_assoc, append-nil}
 use Rattle.std.proofs.lemmas.List.{map-append}
 use Rattle.ep_attr.specs.AttrMap.{AttrMap, none, join}
-use Rattle.ep_cs.specs.Doc.{Cell, Doc, dressed}
+use Rattle.ep_cs.specs.Doc.{Cell, Doc, painted}
 use Rattle.ep_cs.specs.Edit.{Fate, Place, Edit, Step, at_place, over, apply, inserts, settle, steps_from, steps_of, pieces, step_over_new, fate_over, steps_over, compose}
 use Rattle.ep_cs.specs.Edit.Fate.{Drop, Keep}
 use Rattle.ep_cs.specs.Edit.Step.{Insert, Pass}
@@ -20,7 +20,7 @@ passed-steps_from (p ∷ ps) last = passed_inserts p.before _ ∙ ap suc (passed
 module _ {X : Type 0} (kept : X → AttrMap → X) (new : Cell → X) where
   pub record IsAction : Type 0 where
     pub twice : (x : X) (a b : AttrMap) → kept (kept x a) b ≡ kept x (join a b)
-    pub at_new : (c : Cell) (m : AttrMap) → kept (new c) m ≡ new (dressed c m)
+    pub at_new : (c : Cell) (m : AttrMap) → kept (new c) m ≡ new (painted c m)
     pub nothing : (x : X) → kept x none ≡ x
 
   pub run_inserts : (cells : List Cell) (steps : List Step) (xs : List X) → run kept new (inserts cells ++ steps) xs ≡ map new cells ++ run kept new steps xs
@@ -80,7 +80,7 @@ module _ {X : Type 0} (kept : X → AttrMap → X) (new : Cell → X) where
       ∙ ap (over kept new b.places b.last) (run-steps_from a.places a.last xs)
 
 -- a document after one edit and then another
-pub cells_act : IsAction dressed (λ c. c)
+pub cells_act : IsAction painted (λ c. c)
 cells_act = record {
   twice = λ x a b. ap (λ m. record { unit = x.unit; attrs = m }) (after-after x.attrs a b);
   at_new = λ c m. refl;
@@ -88,4 +88,4 @@ cells_act = record {
 }
 
 pub apply-compose : (a b : Edit) (doc : Doc) → length doc ≡ length a.places → apply (compose a b) doc ≡ apply b (apply a doc)
-apply-compose a b doc e = over-compose dressed (λ c. c) cells_act a b doc e
+apply-compose a b doc e = over-compose painted (λ c. c) cells_act a b doc e

@@ -3,7 +3,7 @@ use Rattle.std.proofs.Common.{◌≡◌, ℕ, suc, zero, ◌+◌, Bool, true, fa
 use Rattle.std.proofs.lemmas.List.{map-append}
 use Rattle.ep_attr.specs.AttrMap.{AttrMap, rest}
 use Rattle.ep_cs.specs.Doc.{Cell}
-use Rattle.ep_cs.specs.Edit.{Fate, Place, Edit, Step, at_place, over, painted, numbered, items, inserts, edit_of, compose}
+use Rattle.ep_cs.specs.Edit.{Fate, Place, Edit, Step, at_place, over, painted_item, numbered, items, inserts, edit_of, compose}
 use Rattle.ep_cs.specs.Edit.Fate.{Drop, Keep}
 use Rattle.ep_cs.specs.Edit.Step.{Pass}
 use Rattle.ep_cs.specs.Edit.Item.{New}
@@ -74,10 +74,10 @@ compose-follow side a b n =
     same_edit _ _ (settled-compose a (follow side a b)) (settle_settled [] ms)
     (length-compose a (follow side a b) ∙ sym l)
     (items-compose a (follow side a b)
-    ∙ over-settle painted New [] (follow_steps side a.places b.places a.last b.last) (items a)
-    ∙ run-follow_steps painted New items_act side a.places b.places a.last b.last (numbered 0 (length a.places)) n (length-numbered 0 (length a.places))
-    ∙ ap (λ k. run painted New ms (numbered 0 k)) (sym l)
-    ∙ sym (over-settle painted New [] ms (numbered 0 (length (merge side a b).places))))
+    ∙ over-settle painted_item New [] (follow_steps side a.places b.places a.last b.last) (items a)
+    ∙ run-follow_steps painted_item New items_act side a.places b.places a.last b.last (numbered 0 (length a.places)) n (length-numbered 0 (length a.places))
+    ∙ ap (λ k. run painted_item New ms (numbered 0 k)) (sym l)
+    ∙ sym (over-settle painted_item New [] ms (numbered 0 (length (merge side a b).places))))
 
 decided_turned : (x y t u : Bool) → t ≡ not u → decided x y t ≡ not (decided y x u)
 decided_turned true true t u e = e

@@ -4,7 +4,7 @@ use Rattle.std.proofs.lemmas.List.{map-append}
 use Rattle.ep_units.specs.Text.{is_high, is_low, is_paired, is_well_formed}
 use Rattle.ep_attr.specs.AttrMap.{AttrMap, same_map, after}
 use Rattle.ep_attr.proofs.SameMap.{both_true, first_true, second_true, exact_map, same_map_itself}
-use Rattle.ep_cs.specs.Doc.{Cell, Doc, text_of, dressed, has_equal_halves, is_document}
+use Rattle.ep_cs.specs.Doc.{Cell, Doc, text_of, painted, has_equal_halves, is_document}
 use Rattle.ep_cs.specs.Edit.{Fate, Place, Step, Edit, is_empty, at_place, over, settle}
 use Rattle.ep_cs.specs.Edit.Fate.{Drop, Keep}
 use Rattle.ep_cs.specs.Edit.Step.{Insert, Pass}
@@ -77,7 +77,7 @@ pieces_of (p ∷ ps) last h = (well_formed p.before h.0, pieces_of ps last h.1)
 -- a kept first half and the kept unit behind it
 kept_pair : (c : Cell) (m : AttrMap) (ps : List Place) (last : List Cell) (doc : Doc) → length doc ≡ length ps
     → (not (is_high c.unit) || goes_on (Keep m) ps) ≡ true → (not (is_high c.unit) || begins c.attrs doc) ≡ true
-    → (not (is_high c.unit) || begins (after c.attrs m) (over dressed (λ d. d) ps last doc)) ≡ true
+    → (not (is_high c.unit) || begins (after c.attrs m) (over painted (λ d. d) ps last doc)) ≡ true
 kept_pair c m [] last doc n on same = go (is_high c.unit) on
   where
     go : (h : Bool) → (not h || false) ≡ true → (not h || begins (after c.attrs m) (map (λ (d : Cell). d) last)) ≡ true
@@ -87,30 +87,30 @@ kept_pair c m (p ∷ ps) last [] n on same = absurd (omega (arith, n))
 kept_pair c m (p ∷ ps) last (d ∷ doc) n on same = go (is_high c.unit) p.before p.fate on same
   where
     go : (h : Bool) (before : List Cell) (f : Fate) → (not h || (is_empty before && same_fate (Keep m) f)) ≡ true → (not h || same_map c.attrs d.attrs) ≡ true
-        → (not h || begins (after c.attrs m) (map (λ (e : Cell). e) before ++ (at_place dressed (λ e. e) f d ++ over dressed (λ e. e) ps last doc))) ≡ true
+        → (not h || begins (after c.attrs m) (map (λ (e : Cell). e) before ++ (at_place painted (λ e. e) f d ++ over painted (λ e. e) ps last doc))) ≡ true
     go false before f on same = refl
     go true (x ∷ before) f on same = absurd (subst T (sym on) tt)
     go true [] Drop on same = absurd (subst T (sym on) tt)
     go true [] (Keep k) on same = ap₂ (λ a b. same_map (after c.attrs m) (after a b)) (sym (exact_map c.attrs d.attrs same)) (sym (exact_map m k on)) ∙ same_map_itself (after c.attrs m)
 
 over_halves : (ps : List Place) (last : List Cell) (doc : Doc) → length doc ≡ length ps → AreDocuments ps last → keeps_pairs ps (text_of doc) ≡ true → has_equal_halves doc ≡ true
-    → has_equal_halves (over dressed (λ c. c) ps last doc) ≡ true
+    → has_equal_halves (over painted (λ c. c) ps last doc) ≡ true
 over_halves [] last doc n pieces keeps h = ap has_equal_halves (same_cells last) ∙ equal_halves last pieces
 over_halves (p ∷ ps) last [] n pieces keeps h = absurd (omega (arith, n))
 over_halves (p ∷ ps) last (c ∷ doc) n pieces keeps h =
-    let rest = over dressed (λ c. c) ps last doc in
+    let rest = over painted (λ c. c) ps last doc in
     let again = over_halves ps last doc (omega (arith, n)) pieces.1 (second_true (not (is_high c.unit) || goes_on p.fate ps) _ keeps) (halves_rest c doc h) in
-    ap (λ cs. has_equal_halves (cs ++ (at_place dressed (λ c. c) p.fate c ++ rest))) (same_cells p.before)
-    ∙ halves-append false p.before (at_place dressed (λ c. c) p.fate c ++ rest) (well_formed p.before pieces.0) (equal_halves p.before pieces.0)
+    ap (λ cs. has_equal_halves (cs ++ (at_place painted (λ c. c) p.fate c ++ rest))) (same_cells p.before)
+    ∙ halves-append false p.before (at_place painted (λ c. c) p.fate c ++ rest) (well_formed p.before pieces.0) (equal_halves p.before pieces.0)
     (go p.fate (first_true _ _ keeps) again)
   where
-    go : (f : Fate) → (not (is_high c.unit) || goes_on f ps) ≡ true → has_equal_halves (over dressed (λ c. c) ps last doc) ≡ true → has_equal_halves (at_place dressed (λ c. c) f c ++ over dressed (λ c. c) ps last doc) ≡ true
+    go : (f : Fate) → (not (is_high c.unit) || goes_on f ps) ≡ true → has_equal_halves (over painted (λ c. c) ps last doc) ≡ true → has_equal_halves (at_place painted (λ c. c) f c ++ over painted (λ c. c) ps last doc) ≡ true
     go Drop on again = again
-    go (Keep m) on again = halves_cons (dressed c m) (over dressed (λ c. c) ps last doc) (kept_pair c m ps last doc (omega (arith, n)) on (halves_first c doc h)) again
+    go (Keep m) on again = halves_cons (painted c m) (over painted (λ c. c) ps last doc) (kept_pair c m ps last doc (omega (arith, n)) on (halves_first c doc h)) again
 
 -- a document stays one under an edit that inserts documents and cuts no pair
 pub document_after : (ps : List Place) (last : List Cell) (doc : Doc) → length doc ≡ length ps → AreDocuments ps last → keeps_pairs ps (text_of doc) ≡ true → is_document doc ≡ true
-    → is_document (over dressed (λ c. c) ps last doc) ≡ true
+    → is_document (over painted (λ c. c) ps last doc) ≡ true
 document_after ps last doc n pieces keeps h =
     let e : Edit = record { places = ps; last = last } in
     both_true _ _

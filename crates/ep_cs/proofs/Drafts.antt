@@ -1,11 +1,11 @@
--- What a builder was told, call by call.
+-- What a builder has begun, call by call.
 use Rattle.std.proofs.Common.{◌≡◌, ℕ, zero, suc, ◌+◌, ◌-◌, ◌<◌, ◌≤◌, ◌^◌, List, [], ◌∷◌, ◌++◌, length, take, drop, replicate, Option, Some, None, refl, sym, ap, ap₂, ◌∙◌, subst, arith, append_assoc, append-nil}
 use Rattle.std.proofs.lemmas.List.{take-append-le, drop-append-le}
 use Rattle.std.proofs.Math.Seq.{take-length}
 use Rattle.ep_units.specs.Text.{Text}
 use Rattle.ep_attr.specs.AttrMap.{AttrMap, none, get, after, value_after}
 use Rattle.ep_attr.proofs.Maps.{same_values, get-after}
-use Rattle.ep_cs.specs.Edit.{Step, Item, inserts, edit_of, painted, numbered}
+use Rattle.ep_cs.specs.Edit.{Step, Item, inserts, edit_of, painted_item, numbered}
 use Rattle.ep_cs.specs.Edit.Fate.{Drop, Keep}
 use Rattle.ep_cs.specs.Edit.Step.{Insert, Pass}
 use Rattle.ep_cs.specs.Edit.Item.{New}
@@ -15,7 +15,7 @@ use Rattle.ep_cs.specs.declared.op.Kind.TheVariants as kind
 use Rattle.ep_cs.specs.declared.op.Op.{Op}
 use Rattle.ep_cs.specs.declared.builder.Builder.TheInside as builder
 use Rattle.ep_cs.specs.NormalRuns.{AreLined}
-use Rattle.ep_cs.specs.Packed.{told, IsTold}
+use Rattle.ep_cs.specs.Packed.{begun, IsBegun}
 use Rattle.ep_cs.specs.Runs.{cells, inserted, passed, run_steps, op_steps, steps_of, run_marks, marks_of, all_passed, all_inserted, rest_kept}
 use Rattle.ep_cs.specs.Written.{IsWritten, AreWritten}
 use Rattle.ep_cs.specs.Change.{change_of, change_with}
@@ -69,7 +69,7 @@ marks_more (p ∷ ops) o = ap (λ ms. run_marks p.kind p.units p.lines ++ ms) (m
 pub passed_are : (ops : List Op) (bank : Text) → steps_passed (steps_of ops bank) ≡ all_passed ops
 passed_are ops bank = ap steps_passed (sym (append-nil (steps_of ops bank))) ∙ passed_all ops bank 0 ∙ omega arith
 
--- what a builder was told is the change of its operations
+-- what a builder has begun is the change of its operations
 pub drafted_is : (n : ℕ) (ops : List Op) (bank : Text) → drafted (record { old = n; steps = steps_of ops bank; marks = marks_of ops }) ≡ change_of n ops bank
 drafted_is n ops bank = ap (λ (p : ℕ). change_with (edit_of (steps_of ops bank ++ rest_kept (n - p))) (marks_of ops)) (passed_are ops bank)
 
@@ -81,7 +81,7 @@ dropped_within (Insert c ∷ s) = dropped_within s
 dropped_within (Pass Drop ∷ s) = omega (arith, dropped_within s)
 dropped_within (Pass (Keep m) ∷ s) = omega (arith, dropped_within s)
 
-made_length : (s : List Step) (xs : List Item) → steps_passed s ≤ length xs → length (run_steps_on painted New s xs) + dropped_by s ≡ steps_passed s + inserted_by s
+made_length : (s : List Step) (xs : List Item) → steps_passed s ≤ length xs → length (run_steps_on painted_item New s xs) + dropped_by s ≡ steps_passed s + inserted_by s
 made_length [] xs h = refl
 made_length (Insert c ∷ s) xs h = omega (arith, made_length s xs h)
 made_length (Pass f ∷ s) [] h = absurd (omega (arith, h))
@@ -126,13 +126,13 @@ new_length_is d h =
     let s = d.steps ++ rest_kept r in
     let all : steps_passed s ≡ d.old = passed-append d.steps (rest_kept r) ∙ omega (arith, h, ap steps_passed (sym (append-nil (rest_kept r))), passed_times r (Keep none) []) in
     let places : length (edit_of s).places ≡ d.old = length-settle [] s ∙ all in
-    let made = over-settle painted New [] s (numbered 0 (length (edit_of s).places)) in
+    let made = over-settle painted_item New [] s (numbered 0 (length (edit_of s).places)) in
     let whole = made_length s (numbered 0 (length (edit_of s).places)) (omega (arith, all, places, length-numbered 0 (length (edit_of s).places))) in
     omega (arith, ap length made, whole, all, dropped_within d.steps, h, dropped-append d.steps (rest_kept r), inserted-append d.steps (rest_kept r), (kept_times r none).0, (kept_times r none).1)
 
 -- ---- one more call
 
--- the builder was told one operation more
+-- the builder has begun one operation more
 pub record IsMore (b c : builder.Inside) (o : Op) (text : Text) : Type 0 where
   pub old : c.old_len ≡ b.old_len
   pub ops : c.ops.items ≡ b.ops.items ++ o ∷ []
@@ -141,24 +141,24 @@ pub record IsMore (b c : builder.Inside) (o : Op) (text : Text) : Type 0 where
   pub is : IsWritten o.kind o.units o.attrs text
   pub lined : o.lines ≤ o.units
 
-pub told_more : (b c : builder.Inside) (o : Op) (text : Text) → IsTold b → IsMore b c o text
-    → told c ≡ record { old = b.old_len; steps = (told b).steps ++ op_steps o text; marks = (told b).marks ++ run_marks o.kind o.units o.lines }
-told_more b c o text t m =
+pub begun_more : (b c : builder.Inside) (o : Op) (text : Text) → IsBegun b → IsMore b c o text
+    → begun c ≡ record { old = b.old_len; steps = (begun b).steps ++ op_steps o text; marks = (begun b).marks ++ run_marks o.kind o.units o.lines }
+begun_more b c o text t m =
     let steps : steps_of c.ops.items c.bank ≡ steps_of b.ops.items b.bank ++ op_steps o text = ap₂ steps_of m.ops m.bank ∙ steps_more b.ops.items o b.bank text t.written m.width in
     let marks : marks_of c.ops.items ≡ marks_of b.ops.items ++ run_marks o.kind o.units o.lines = ap marks_of m.ops ∙ marks_more b.ops.items o in
     λ i. record { old = m.old i; steps = steps i; marks = marks i }
 
-pub is_told : (b c : builder.Inside) (o : Op) (text : Text) → IsTold b → IsMore b c o text
+pub is_begun : (b c : builder.Inside) (o : Op) (text : Text) → IsBegun b → IsMore b c o text
     → all_passed b.ops.items + passed o.kind o.units ≤ b.old_len
-    → c.new_len ≡ b.old_len - (dropped_by (told b).steps + dropped_by (op_steps o text)) + (inserted_by (told b).steps + inserted_by (op_steps o text))
-    → length c.bank < 2 ^ 32 → IsTold c
-is_told b c o text t m room new few = record {
+    → c.new_len ≡ b.old_len - (dropped_by (begun b).steps + dropped_by (op_steps o text)) + (inserted_by (begun b).steps + inserted_by (op_steps o text))
+    → length c.bank < 2 ^ 32 → IsBegun c
+is_begun b c o text t m room new few = record {
   inside = omega (arith, room, m.old, ap all_passed m.ops, all_passed-append b.ops.items (o ∷ []));
   written = subst (λ (x : List Op × Text). AreWritten x.0 x.1) (λ i. (sym m.ops i, sym m.bank i)) (written_more b.ops.items o b.bank text t.written m.width m.is);
   lined = subst AreLined (sym m.ops) (lined-append b.ops.items (o ∷ []) t.lined (m.lined, tt));
   new =
-      new ∙ ap₂ (λ (x y : ℕ). b.old_len - x + y) (sym (dropped-append (told b).steps (op_steps o text))) (sym (inserted-append (told b).steps (op_steps o text)))
-      ∙ ap new_length (sym (told_more b c o text t m));
+      new ∙ ap₂ (λ (x y : ℕ). b.old_len - x + y) (sym (dropped-append (begun b).steps (op_steps o text))) (sym (inserted-append (begun b).steps (op_steps o text)))
+      ∙ ap new_length (sym (begun_more b c o text t m));
   few = few;
   old = omega (arith, m.old, t.old);
 }
@@ -166,26 +166,26 @@ is_told b c o text t m room new few = record {
 -- what a call has room for, in the builder's own terms
 pub record HasLeft (b : builder.Inside) (units : ℕ) : Type 0 where
   pub places : all_passed b.ops.items + units ≤ b.old_len
-  pub steps : steps_passed (told b).steps + units ≤ b.old_len
+  pub steps : steps_passed (begun b).steps + units ≤ b.old_len
 
-pub room_left : (b : builder.Inside) (d : Draft) (units : ℕ) → told b ≡ d → steps_passed d.steps + units ≤ d.old → HasLeft b units
+pub room_left : (b : builder.Inside) (d : Draft) (units : ℕ) → begun b ≡ d → steps_passed d.steps + units ≤ d.old → HasLeft b units
 room_left b d units e h =
-    let here : steps_passed (told b).steps + units ≤ b.old_len = subst (λ (d : Draft). steps_passed d.steps + units ≤ d.old) (sym e) h in
+    let here : steps_passed (begun b).steps + units ≤ b.old_len = subst (λ (d : Draft). steps_passed d.steps + units ≤ d.old) (sym e) h in
     record { places = omega (arith, here, passed_are b.ops.items b.bank); steps = here }
 
-pub new_kept : (b : builder.Inside) (n : ℕ) (m : AttrMap) → IsTold b
-    → b.new_len ≡ b.old_len - (dropped_by (told b).steps + dropped_by (replicate n (Pass (Keep m)))) + (inserted_by (told b).steps + inserted_by (replicate n (Pass (Keep m))))
+pub new_kept : (b : builder.Inside) (n : ℕ) (m : AttrMap) → IsBegun b
+    → b.new_len ≡ b.old_len - (dropped_by (begun b).steps + dropped_by (replicate n (Pass (Keep m)))) + (inserted_by (begun b).steps + inserted_by (replicate n (Pass (Keep m))))
 new_kept b n m t = let k = kept_times n m in omega (arith, t.new, k.0, k.1)
 
-pub new_dropped : (b : builder.Inside) (n : ℕ) → IsTold b → HasLeft b n
-    → b.new_len - n ≡ b.old_len - (dropped_by (told b).steps + dropped_by (replicate n (Pass Drop))) + (inserted_by (told b).steps + inserted_by (replicate n (Pass Drop)))
-new_dropped b n t h = omega (arith, t.new, h.steps, dropped_within (told b).steps, dropped_times n, inserted_times n)
+pub new_dropped : (b : builder.Inside) (n : ℕ) → IsBegun b → HasLeft b n
+    → b.new_len - n ≡ b.old_len - (dropped_by (begun b).steps + dropped_by (replicate n (Pass Drop))) + (inserted_by (begun b).steps + inserted_by (replicate n (Pass Drop)))
+new_dropped b n t h = omega (arith, t.new, h.steps, dropped_within (begun b).steps, dropped_times n, inserted_times n)
 
-pub dropped_room : (b : builder.Inside) (n : ℕ) → IsTold b → HasLeft b n → n ≤ b.new_len
-dropped_room b n t h = omega (arith, t.new, h.steps, dropped_within (told b).steps)
+pub dropped_room : (b : builder.Inside) (n : ℕ) → IsBegun b → HasLeft b n → n ≤ b.new_len
+dropped_room b n t h = omega (arith, t.new, h.steps, dropped_within (begun b).steps)
 
-pub new_inserted : (b : builder.Inside) (m : AttrMap) (us : Text) → IsTold b
-    → b.new_len + length us ≡ b.old_len - (dropped_by (told b).steps + dropped_by (inserts (cells m us))) + (inserted_by (told b).steps + inserted_by (inserts (cells m us)))
+pub new_inserted : (b : builder.Inside) (m : AttrMap) (us : Text) → IsBegun b
+    → b.new_len + length us ≡ b.old_len - (dropped_by (begun b).steps + dropped_by (inserts (cells m us))) + (inserted_by (begun b).steps + inserted_by (inserts (cells m us)))
 new_inserted b m us t = let k = inserted_units m us in omega (arith, t.new, k.0, k.1)
 
 inserted_are : (ops : List Op) (bank : Text) → AreWritten ops bank → inserted_by (steps_of ops bank) ≡ all_inserted ops
@@ -201,7 +201,7 @@ inserted_are (o ∷ os) bank h =
     go kind.Insert is e = omega (arith, e, (inserted_units o.attrs (take o.units bank)).1, is.0)
 
 -- what is inserted stands in the bank
-pub bank_inserted : (b : builder.Inside) → IsTold b → inserted_by (told b).steps ≡ length b.bank
+pub bank_inserted : (b : builder.Inside) → IsBegun b → inserted_by (begun b).steps ≡ length b.bank
 bank_inserted b t = inserted_are b.ops.items b.bank t.written ∙ begins b.ops.items b.bank t.written
 
 -- an inserted map without empty values stays as it is

@@ -4,7 +4,7 @@ use Rattle.std.proofs.lemmas.Bool.Decides.{nat_tests}
 use Rattle.std.proofs.lemmas.List.{map-append, length-append}
 use Rattle.ep_units.specs.Text.{Text, is_high, is_low, is_paired, is_well_formed}
 use Rattle.ep_attr.specs.AttrMap.{AttrMap, none, rest, get, map_of, insert_some, value_left}
-use Rattle.ep_cs.specs.Doc.{Cell, Doc, text_of, dressed}
+use Rattle.ep_cs.specs.Doc.{Cell, Doc, text_of, painted}
 use Rattle.ep_cs.specs.Edit.{Fate, Place, Edit, Step, are_settled, over, at_place, apply, inserts, is_empty, with_place, settle, edit_of, steps_from, steps_of, step_over_new, fate_over, pieces, steps_over, compose, identity}
 use Rattle.ep_cs.specs.Edit.Fate.{Drop, Keep}
 use Rattle.ep_cs.specs.Edit.Step.{Insert, Pass}
@@ -79,13 +79,13 @@ length_new : (cells : List Cell) → length (map (λ (c : Cell). c) cells) ≡ l
 length_new [] = refl
 length_new (c ∷ cells) = ap suc (length_new cells)
 
-length_at : (f g : Fate) (c : Cell) (steps : List Step) → passed (follow_place f g ++ steps) ≡ length (at_place dressed (λ c. c) f c) + passed steps
+length_at : (f g : Fate) (c : Cell) (steps : List Step) → passed (follow_place f g ++ steps) ≡ length (at_place painted (λ c. c) f c) + passed steps
 length_at Drop g c steps = omega arith
 length_at (Keep a) Drop c steps = omega arith
 length_at (Keep a) (Keep b) c steps = omega arith
 
 passed_follow : (side : Bool) (ps qs : List Place) (la lb : List Cell) (doc : Doc) → length ps ≡ length qs → length doc ≡ length ps
-    → passed (follow_steps side ps qs la lb) ≡ length (over dressed (λ c. c) ps la doc)
+    → passed (follow_steps side ps qs la lb) ≡ length (over painted (λ c. c) ps la doc)
 passed_follow side [] qs la lb doc n l =
     let h = passed_gap side la lb [] in
     let g = ap passed (append-nil (follow_gap side la lb)) in
@@ -95,12 +95,12 @@ passed_follow side (p ∷ ps) [] la lb doc n l = absurd (omega (arith, n))
 passed_follow side (p ∷ ps) (q ∷ qs) la lb [] n l = absurd (omega (arith, l))
 passed_follow side (p ∷ ps) (q ∷ qs) la lb (c ∷ doc) n l =
     let ih = passed_follow side ps qs la lb doc (omega (arith, n)) (omega (arith, l)) in
-    let after = over dressed (λ c. c) ps la doc in
+    let after = over painted (λ c. c) ps la doc in
     let g = passed_gap side p.before q.before (follow_place p.fate q.fate ++ follow_steps side ps qs la lb) in
     let h = length_at p.fate q.fate c (follow_steps side ps qs la lb) in
     let k = length_new p.before in
-    let m = length-append (map (λ (c : Cell). c) p.before) (at_place dressed (λ c. c) p.fate c ++ after) in
-    let o = length-append (at_place dressed (λ c. c) p.fate c) after in
+    let m = length-append (map (λ (c : Cell). c) p.before) (at_place painted (λ c. c) p.fate c ++ after) in
+    let o = length-append (at_place painted (λ c. c) p.fate c) after in
     omega (arith, ih, g, h, k, m, o)
 
 pub length-follow : (side : Bool) (a b : Edit) (doc : Doc) → length doc ≡ length a.places → length doc ≡ length b.places
@@ -236,9 +236,9 @@ goes_run : (half : Bool) (f : Fate) (q : Place) (qs : List Place) → (not half 
 goes_run half f q qs e h = let g = goes_with half _ e h in (first_true _ _ g, second_true (is_empty q.before) _ g)
 
 whole-over : (half : Bool) (f : Fate) (steps : List Step) (qs : List Place) (last : List Cell) (doc : Doc)
-    → length doc ≡ passed steps → length (run dressed (λ c. c) steps doc) ≡ length qs
+    → length doc ≡ passed steps → length (run painted (λ c. c) steps doc) ≡ length qs
     → is_whole half steps ≡ true → ArePieces qs last → (not half || goes_on f qs) ≡ true
-    → keeps_pairs qs (text_of (run dressed (λ c. c) steps doc)) ≡ true
+    → keeps_pairs qs (text_of (run painted (λ c. c) steps doc)) ≡ true
     → is_whole (is_kept f && half) (steps_over steps qs last) ≡ true
 whole-over half f [] qs last doc n m w h r k = half_over f half (inserts (pieces qs last)) (is_false half w) (whole-pieces qs last h)
 whole-over half f (Insert c ∷ steps) [] last doc n m w h r k = absurd (omega (arith, m))
@@ -259,7 +259,7 @@ whole-over half f (Pass (Keep a) ∷ steps) (q ∷ qs) last (d ∷ doc) n m w h 
 pub pieces-compose : (a b : Edit) (doc : Doc) → length doc ≡ length a.places → length (apply a doc) ≡ length b.places → ArePieces a.places a.last → ArePieces b.places b.last → keeps_pairs b.places (text_of (apply a doc)) ≡ true
     → ArePieces (compose a b).places (compose a b).last
 pieces-compose a b doc n m h g k =
-    let r = run-steps_from dressed (λ c. c) a.places a.last doc in
+    let r = run-steps_from painted (λ c. c) a.places a.last doc in
     whole-settle [] false (steps_over (steps_of a) b.places b.last) (λ us. refl)
     (whole-over false Drop (steps_of a) b.places b.last doc (n ∙ sym (passed-steps_from a.places a.last)) (ap length r ∙ m) (whole-steps a.places a.last h) g refl
     (ap (λ cs. keeps_pairs b.places (text_of cs)) r ∙ k))
@@ -352,22 +352,22 @@ ends-kept c [] long e = go (is_high c.unit) long
     go false f = refl
 ends-kept c (d ∷ ds) long e = e
 
-goes_on_kept : (m : AttrMap) (ps : List Place) (last : List Cell) (doc : Doc) → goes_on (Keep m) ps ≡ true → length doc ≡ length ps → is_empty (over dressed (λ c. c) ps last doc) ≡ false
+goes_on_kept : (m : AttrMap) (ps : List Place) (last : List Cell) (doc : Doc) → goes_on (Keep m) ps ≡ true → length doc ≡ length ps → is_empty (over painted (λ c. c) ps last doc) ≡ false
 goes_on_kept m [] last doc e n = absurd (subst T (sym e) tt)
 goes_on_kept m (q ∷ qs) last [] e n = absurd (omega (arith, n))
 goes_on_kept m (q ∷ qs) last (d ∷ doc) e n = go q.before q.fate (second_true (is_empty q.before) _ e)
   where
-    go : (b : List Cell) (f : Fate) → same_fate (Keep m) f ≡ true → is_empty (map (λ (c : Cell). c) b ++ (at_place dressed (λ c. c) f d ++ over dressed (λ c. c) qs last doc)) ≡ false
+    go : (b : List Cell) (f : Fate) → same_fate (Keep m) f ≡ true → is_empty (map (λ (c : Cell). c) b ++ (at_place painted (λ c. c) f d ++ over painted (λ c. c) qs last doc)) ≡ false
     go [] Drop s = absurd (subst T (sym s) tt)
     go [] (Keep k) s = refl
     go (c ∷ b) f s = refl
 
 ends-place : (f : Fate) (d : Cell) (ps : List Place) (last : List Cell) (doc : Doc) → length doc ≡ length ps → (not (is_high d.unit) || goes_on f ps) ≡ true
-    → ends_well (over dressed (λ c. c) ps last doc) ≡ true → ends_well (at_place dressed (λ c. c) f d ++ over dressed (λ c. c) ps last doc) ≡ true
+    → ends_well (over painted (λ c. c) ps last doc) ≡ true → ends_well (at_place painted (λ c. c) f d ++ over painted (λ c. c) ps last doc) ≡ true
 ends-place Drop d ps last doc n k rest = rest
-ends-place (Keep m) d ps last doc n k rest = ends-kept (dressed d m) _ (λ s. goes_on_kept m ps last doc (goes_with _ _ k s) n) rest
+ends-place (Keep m) d ps last doc n k rest = ends-kept (painted d m) _ (λ s. goes_on_kept m ps last doc (goes_with _ _ k s) n) rest
 
-ends-over : (ps : List Place) (last : List Cell) (doc : Doc) → length doc ≡ length ps → ArePieces ps last → keeps_pairs ps (text_of doc) ≡ true → ends_well (over dressed (λ c. c) ps last doc) ≡ true
+ends-over : (ps : List Place) (last : List Cell) (doc : Doc) → length doc ≡ length ps → ArePieces ps last → keeps_pairs ps (text_of doc) ≡ true → ends_well (over painted (λ c. c) ps last doc) ≡ true
 ends-over [] last doc n h e = ends-text false last h
 ends-over (p ∷ ps) last [] n h e = absurd (omega (arith, n))
 ends-over (p ∷ ps) last (d ∷ doc) n h e =
@@ -409,23 +409,23 @@ rest_none a = map_of_none _ _ (λ k. nothing_left (get a k))
     nothing_left None = refl
     nothing_left (Some t) = refl
 
-bare-place : (f : Fate) (c : Cell) (n : ℕ) → follow_place f (Keep none) ++ bare n ≡ bare (length (at_place dressed (λ c. c) f c) + n)
+bare-place : (f : Fate) (c : Cell) (n : ℕ) → follow_place f (Keep none) ++ bare n ≡ bare (length (at_place painted (λ c. c) f c) + n)
 bare-place Drop c n = ap bare (omega arith)
 bare-place (Keep a) c n = ap (λ m. Pass (Keep m) ∷ bare n) (rest_none a) ∙ ap bare {x = suc n} (omega arith)
 
 bare-follow : (side : Bool) (ps : List Place) (last : List Cell) (doc : Doc) → length doc ≡ length ps
-    → follow_steps side ps (identity (length doc)).places last [] ≡ bare (length (over dressed (λ c. c) ps last doc))
+    → follow_steps side ps (identity (length doc)).places last [] ≡ bare (length (over painted (λ c. c) ps last doc))
 bare-follow side [] last [] n = sym (append-nil (follow_gap side last [])) ∙ bare-gap side last 0 ∙ ap bare (let k = length_new last in omega (arith, k))
 bare-follow side [] last (d ∷ doc) n = absurd (omega (arith, n))
 bare-follow side (p ∷ ps) last [] n = absurd (omega (arith, n))
 bare-follow side (p ∷ ps) last (d ∷ doc) n =
-    let after = over dressed (λ c. c) ps last doc in
+    let after = over painted (λ c. c) ps last doc in
     let k = length_new p.before in
-    let m = length-append (map (λ (c : Cell). c) p.before) (at_place dressed (λ c. c) p.fate d ++ after) in
-    let o = length-append (at_place dressed (λ c. c) p.fate d) after in
+    let m = length-append (map (λ (c : Cell). c) p.before) (at_place painted (λ c. c) p.fate d ++ after) in
+    let o = length-append (at_place painted (λ c. c) p.fate d) after in
     ap (λ s. follow_gap side p.before [] ++ (follow_place p.fate (Keep none) ++ s)) (bare-follow side ps last doc (omega (arith, n)))
     ∙ ap (λ s. follow_gap side p.before [] ++ s) (bare-place p.fate d (length after))
-    ∙ bare-gap side p.before (length (at_place dressed (λ c. c) p.fate d) + length after)
+    ∙ bare-gap side p.before (length (at_place painted (λ c. c) p.fate d) + length after)
     ∙ ap bare (omega (arith, k, m, o))
 
 -- what is left of nothing after an edit is nothing

@@ -1,8 +1,8 @@
--- The identity, and the edits that are told as one.
+-- The identity, and the edits that count as one.
 use Rattle.std.proofs.Common.{◌≡◌, ℕ, zero, suc, Bool, true, false, ◌&&◌, List, [], ◌∷◌, length, refl, ap}
 use Rattle.ep_attr.specs.AttrMap.{AttrMap, Pair, none, is_none, same_pairs}
 use Rattle.ep_attr.specs.Codes.{same_pairs_map}
-use Rattle.ep_cs.specs.Doc.{Cell, Doc, dressed}
+use Rattle.ep_cs.specs.Doc.{Cell, Doc, painted}
 use Rattle.ep_cs.specs.Edit.{Fate, Place, Edit, apply, identity, is_empty}
 use Rattle.ep_cs.specs.Edit.Fate.{Drop, Keep}
 use Rattle.ep_cs.specs.Fits.{is_plain, is_plain_rest, is_identity}
@@ -10,7 +10,7 @@ use Rattle.ep_cs.proofs.Composed.{cells_act}
 use Rattle.ep_cs.proofs.Items.{over-identity}
 
 pub apply-identity : (doc : Doc) → apply (identity (length doc)) doc ≡ doc
-apply-identity doc = over-identity dressed (λ c. c) cells_act doc
+apply-identity doc = over-identity painted (λ c. c) cells_act doc
 
 pub is_identity-identity : (n : ℕ) → is_identity (identity n) ≡ true
 is_identity-identity zero = refl

@@ -1,9 +1,9 @@
--- An edit is told by its items; composition is associative, with the identity as its unit.
+-- An edit is known by its items; composition is associative, with the identity as its unit.
 use Rattle.std.proofs.Common.{◌≡◌, ℕ, suc, zero, ◌+◌, ◌<◌, Bool, true, false, not, ◌&&◌, ◌||◌, nat_le, List, [], ◌∷◌, ◌++◌, map, length, refl, sym, ap, ◌∙◌, subst, T, arith, append-nil, true≢false}
 use Rattle.std.proofs.lemmas.Bool.Decides.{nat_tests}
 use Rattle.ep_attr.specs.AttrMap.{AttrMap, none, join}
 use Rattle.ep_cs.specs.Doc.{Cell}
-use Rattle.ep_cs.specs.Edit.{Fate, Place, Edit, Step, Item, IsSettled, are_settled, is_drop, is_empty, at_place, over, painted, numbered, apply_items, items, inserts, settle, steps_of, pieces, step_over_new, steps_over, compose, identity}
+use Rattle.ep_cs.specs.Edit.{Fate, Place, Edit, Step, Item, IsSettled, are_settled, is_drop, is_empty, at_place, over, painted_item, numbered, apply_items, items, inserts, settle, steps_of, pieces, step_over_new, steps_over, compose, identity}
 use Rattle.ep_cs.specs.Edit.Fate.{Drop, Keep}
 use Rattle.ep_cs.specs.Edit.Step.{Insert, Pass}
 use Rattle.ep_cs.specs.Edit.Item.{Kept, New}
@@ -11,14 +11,14 @@ use Rattle.ep_attr.proofs.Maps.{after-after, join-join, after-none, join-none, n
 use Rattle.ep_cs.specs.Steps.{passed}
 use Rattle.ep_cs.proofs.Composed.{IsAction, over-compose, passed-steps_from, passed_inserts}
 
-pub items_act : IsAction painted New
+pub items_act : IsAction painted_item New
 items_act = record { twice = twice; at_new = λ c m. refl; nothing = nothing }
   where
-    twice : (x : Item) (a b : AttrMap) → painted (painted x a) b ≡ painted x (join a b)
+    twice : (x : Item) (a b : AttrMap) → painted_item (painted_item x a) b ≡ painted_item x (join a b)
     twice (Kept k m) a b = ap (Kept k) (join-join m a b)
     twice (New c) a b = ap (λ m. New (record { unit = c.unit; attrs = m })) (after-after c.attrs a b)
 
-    nothing : (x : Item) → painted x none ≡ x
+    nothing : (x : Item) → painted_item x none ≡ x
     nothing (Kept k m) = ap (Kept k) (join-none m)
     nothing (New c) = ap (λ m. New (record { unit = c.unit; attrs = m })) (after-none c.attrs)
 
@@ -62,12 +62,12 @@ past i k h = grind (arith, nat_tests)
 self : (i : ℕ) → nat_le i i ≡ true
 self i = grind (arith, nat_tests)
 
-keeps_by_place : (i j : ℕ) (f : Fate) (is : List Item) → i < j → keeps_by i is ≡ false → keeps_by i (at_place painted New f (Kept j none) ++ is) ≡ false
+keeps_by_place : (i j : ℕ) (f : Fate) (is : List Item) → i < j → keeps_by i is ≡ false → keeps_by i (at_place painted_item New f (Kept j none) ++ is) ≡ false
 keeps_by_place i j Drop is h e = e
 keeps_by_place i j (Keep m) is h e = ap (λ b. b || keeps_by i is) (past i j h) ∙ e
 
 -- an edit of the places from j on keeps none before
-keeps_by_past : (i j : ℕ) (ps : List Place) (last : List Cell) → i < j → keeps_by i (over painted New ps last (numbered j (length ps))) ≡ false
+keeps_by_past : (i j : ℕ) (ps : List Place) (last : List Cell) → i < j → keeps_by i (over painted_item New ps last (numbered j (length ps))) ≡ false
 keeps_by_past i j [] last h = ap (keeps_by i) (sym (append-nil (map New last))) ∙ keeps_by_new i last []
 keeps_by_past i j (p ∷ ps) last h = keeps_by_new i p.before _ ∙ keeps_by_place i j p.fate _ h (keeps_by_past i (j + 1) ps last (omega arith))
 
@@ -83,10 +83,10 @@ no_piece [] ps h = refl
 no_piece (c ∷ cs) ps h = absurd (subst T (sym h) tt)
 
 abbrev Told : ℕ → List Place → List Place → List Cell → List Cell → Type 0
-Told i ps qs la lb = over painted New ps la (numbered i (length ps)) ≡ over painted New qs lb (numbered i (length qs))
+Told i ps qs la lb = over painted_item New ps la (numbered i (length ps)) ≡ over painted_item New qs lb (numbered i (length qs))
 
 dropped_first : (i : ℕ) (ps : List Place) (la : List Cell) (cells : List Cell) (m : AttrMap) (is : List Item)
-    → over painted New ps la (numbered (i + 1) (length ps)) ≡ map New cells ++ (Kept i m ∷ is) → ⊥
+    → over painted_item New ps la (numbered (i + 1) (length ps)) ≡ map New cells ++ (Kept i m ∷ is) → ⊥
 dropped_first i ps la cells m is e = true≢false
     (sym (keeps_by_new i cells (Kept i m ∷ is) ∙ ap (λ b. b || keeps_by i is) (self i))
     ∙ sym (ap (keeps_by i) e) ∙ keeps_by_past i (i + 1) ps la (omega arith))
@@ -112,12 +112,12 @@ same_parts i (p ∷ ps) (q ∷ qs) la lb s t n e =
     go b c Drop Drop s t e ih =
         let u : b ≡ [] = no_piece b ps s in
         let v : c ≡ [] = no_piece c qs t in
-        let told : Told (i + 1) ps qs la lb = ap (λ b. map New b ++ over painted New ps la (numbered (i + 1) (length ps))) (sym u) ∙ e ∙ ap (λ c. map New c ++ over painted New qs lb (numbered (i + 1) (length qs))) v in
+        let told : Told (i + 1) ps qs la lb = ap (λ b. map New b ++ over painted_item New ps la (numbered (i + 1) (length ps))) (sym u) ∙ e ∙ ap (λ c. map New c ++ over painted_item New qs lb (numbered (i + 1) (length qs))) v in
         (cc (u, v, (ih told).0), (ih told).1)
     go b c Drop (Keep m) s t e ih =
-        absurd (dropped_first i ps la c _ _ (ap (λ b. map New b ++ over painted New ps la (numbered (i + 1) (length ps))) (sym (no_piece b ps s)) ∙ e))
+        absurd (dropped_first i ps la c _ _ (ap (λ b. map New b ++ over painted_item New ps la (numbered (i + 1) (length ps))) (sym (no_piece b ps s)) ∙ e))
     go b c (Keep m) Drop s t e ih =
-        absurd (dropped_first i qs lb b _ _ (ap (λ c. map New c ++ over painted New qs lb (numbered (i + 1) (length qs))) (sym (no_piece c qs t)) ∙ sym e))
+        absurd (dropped_first i qs lb b _ _ (ap (λ c. map New c ++ over painted_item New qs lb (numbered (i + 1) (length qs))) (sym (no_piece c qs t)) ∙ sym e))
     go b c (Keep m) (Keep l) s t e ih =
         let u : b ≡ c = sym (front_at b i (join none m) _) ∙ ap front e ∙ front_at c i (join none l) _ in
         let h = same_head i m l _ _ (sym (back_at b i (join none m) _) ∙ ap back e ∙ back_at c i (join none l) _) in
@@ -171,13 +171,13 @@ length-numbered i (suc n) = ap suc (length-numbered (i + 1) n)
 pub items-compose : (a b : Edit) → items (compose a b) ≡ apply_items b (items a)
 items-compose a b =
     ap (λ n. apply_items (compose a b) (numbered 0 n)) (length-compose a b)
-    ∙ over-compose painted New items_act a b (numbered 0 (length a.places)) (length-numbered 0 (length a.places))
+    ∙ over-compose painted_item New items_act a b (numbered 0 (length a.places)) (length-numbered 0 (length a.places))
 
 pub compose_assoc : (a b c : Edit) → length (items a) ≡ length b.places → compose (compose a b) c ≡ compose a (compose b c)
 compose_assoc a b c n = same_edit _ _ (settled-compose (compose a b) c) (settled-compose a (compose b c))
     (length-compose (compose a b) c ∙ length-compose a b ∙ sym (length-compose a (compose b c)))
     (items-compose (compose a b) c ∙ ap (apply_items c) (items-compose a b)
-    ∙ sym (items-compose a (compose b c) ∙ over-compose painted New items_act b c (items a) n))
+    ∙ sym (items-compose a (compose b c) ∙ over-compose painted_item New items_act b c (items a) n))
 
 identity_settled : (n : ℕ) → are_settled (identity n).places ≡ true
 identity_settled zero = refl
@@ -196,7 +196,7 @@ items-identity : (n : ℕ) → items (identity n) ≡ numbered 0 n
 items-identity n =
     ap (λ k. apply_items (identity n) (numbered 0 k)) (length-identity n)
     ∙ ap (λ k. apply_items (identity k) (numbered 0 n)) (sym (length-numbered 0 n))
-    ∙ over-identity painted New items_act (numbered 0 n)
+    ∙ over-identity painted_item New items_act (numbered 0 n)
 
 pub identity-compose : (b : Edit) → IsSettled b → compose (identity (length b.places)) b ≡ b
 identity-compose b s = same_edit _ _ (settled-compose (identity (length b.places)) b) s
@@ -205,4 +205,4 @@ identity-compose b s = same_edit _ _ (settled-compose (identity (length b.places
 
 pub compose-identity : (a : Edit) → IsSettled a → compose a (identity (length (items a))) ≡ a
 compose-identity a s = same_edit _ _ (settled-compose a (identity (length (items a)))) s (length-compose a (identity (length (items a))))
-    (items-compose a (identity (length (items a))) ∙ over-identity painted New items_act (items a))
+    (items-compose a (identity (length (items a))) ∙ over-identity painted_item New items_act (items a))

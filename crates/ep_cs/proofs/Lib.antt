@@ -23,6 +23,7 @@ pub mod Roomy
 pub mod Stretches
 pub mod InOrder
 pub mod Drafts
+pub mod Longer
 pub mod Packings
 pub mod TrueRuns
 pub mod NewMaps

@@ -3,7 +3,7 @@ use Rattle.std.proofs.Common.{◌≡◌, Bool, true, false, cond, not, ◌&&◌,
 use Rattle.std.proofs.lemmas.List.{map-append}
 use Rattle.ep_units.specs.Text.{Text, is_high, is_low, is_paired, is_well_formed, text_eq}
 use Rattle.ep_attr.specs.AttrMap.{AttrMap, none, join, rest, same_map}
-use Rattle.ep_cs.specs.Doc.{Cell, Doc, text_of, dressed}
+use Rattle.ep_cs.specs.Doc.{Cell, Doc, text_of, painted}
 use Rattle.ep_cs.specs.Edit.{Fate, Place, Edit, Step, is_empty, at_place, over, apply, compose, steps_of, steps_from, steps_over, step_over_new, fate_over, pieces, inserts, settle}
 use Rattle.ep_cs.specs.Edit.Fate.{Drop, Keep}
 use Rattle.ep_cs.specs.Edit.Step.{Insert, Pass}
@@ -116,14 +116,14 @@ same_cells (c ∷ cs) = ap (λ ds. c ∷ ds) (same_cells cs)
 keep_place : (side : Bool) (f g : Fate) (c : Cell) (ps qs : List Place) (la lb : List Cell) (us : Text)
     → (not (is_high c.unit) || goes_on f ps) ≡ true → (not (is_high c.unit) || goes_on g qs) ≡ true
     → steps_keep (follow_steps side ps qs la lb) us ≡ true
-    → steps_keep (follow_place f g ++ follow_steps side ps qs la lb) (text_of (at_place dressed (λ c. c) f c) ++ us) ≡ true
+    → steps_keep (follow_place f g ++ follow_steps side ps qs la lb) (text_of (at_place painted (λ c. c) f c) ++ us) ≡ true
 keep_place side Drop g c ps qs la lb us e h ih = ih
 keep_place side (Keep a) Drop c ps qs la lb us e h ih = both_true _ _ (when_both (is_high c.unit) _ _ _ (next_follow side ps qs la lb a Drop) e h) ih
 keep_place side (Keep a) (Keep b) c ps qs la lb us e h ih = both_true _ _ (when_both (is_high c.unit) _ _ _ (next_follow side ps qs la lb a (Keep b)) e h) ih
 
 steps_keep-follow : (side : Bool) (ps qs : List Place) (la lb : List Cell) (doc : Doc)
     → length ps ≡ length qs → length doc ≡ length ps → ArePieces ps la → keeps_pairs ps (text_of doc) ≡ true → keeps_pairs qs (text_of doc) ≡ true
-    → steps_keep (follow_steps side ps qs la lb) (text_of (over dressed (λ c. c) ps la doc)) ≡ true
+    → steps_keep (follow_steps side ps qs la lb) (text_of (over painted (λ c. c) ps la doc)) ≡ true
 steps_keep-follow side [] qs la lb doc n l pieces e h =
     ap (λ cs. steps_keep (follow_gap side la lb) (text_of cs)) (same_cells la)
     ∙ ap₂ (λ s us. steps_keep s us) (sym (append-nil (follow_gap side la lb))) (sym (append-nil (text_of la)))
@@ -132,8 +132,8 @@ steps_keep-follow side (p ∷ ps) [] la lb doc n l pieces e h = absurd (omega ar
 steps_keep-follow side (p ∷ ps) (q ∷ qs) la lb [] n l pieces e h = absurd (omega arith)
 steps_keep-follow side (p ∷ ps) (q ∷ qs) la lb (c ∷ doc) n l pieces e h =
     let ih = steps_keep-follow side ps qs la lb doc (omega arith) (omega arith) pieces.1 (second_true (not (is_high c.unit) || goes_on p.fate ps) _ e) (second_true (not (is_high c.unit) || goes_on q.fate qs) _ h) in
-    let here = at_place dressed (λ c. c) p.fate c in
-    let after = over dressed (λ c. c) ps la doc in
+    let here = at_place painted (λ c. c) p.fate c in
+    let after = over painted (λ c. c) ps la doc in
     ap (λ cs. steps_keep (follow_steps side (p ∷ ps) (q ∷ qs) la lb) (text_of (cs ++ (here ++ after)))) (same_cells p.before)
     ∙ ap (steps_keep (follow_steps side (p ∷ ps) (q ∷ qs) la lb)) (map-append (λ (c : Cell). c.unit) p.before (here ++ after) ∙ ap (λ us. text_of p.before ++ us) (map-append (λ (c : Cell). c.unit) here after))
     ∙ steps_keep-gap side p.before q.before _ _ pieces.0
@@ -206,7 +206,7 @@ steps_keep-new c Drop steps us = refl
 steps_keep-new c (Keep m) steps us = refl
 
 steps_keep-steps_over : (steps : List Step) (qs : List Place) (last : List Cell) (doc : Doc) → length doc ≡ passed steps
-    → steps_keep steps (text_of doc) ≡ true → keeps_pairs qs (text_of (run dressed (λ c. c) steps doc)) ≡ true
+    → steps_keep steps (text_of doc) ≡ true → keeps_pairs qs (text_of (run painted (λ c. c) steps doc)) ≡ true
     → steps_keep (steps_over steps qs last) (text_of doc) ≡ true
 steps_keep-steps_over [] qs last doc n e h = only (pieces qs last)
   where
@@ -236,4 +236,4 @@ pub compose_keeps_pairs : (a b : Edit) (doc : Doc) → length doc ≡ length a.p
 compose_keeps_pairs a b doc n e h =
     keeps_pairs-settle [] (steps_over (steps_of a) b.places b.last) (text_of doc)
     (steps_keep-steps_over (steps_of a) b.places b.last doc (n ∙ sym (passed-steps_from a.places a.last)) (steps_keep-steps_from a.places a.last (text_of doc) e)
-    (ap (λ cs. keeps_pairs b.places (text_of cs)) (run-steps_from dressed (λ c. c) a.places a.last doc) ∙ h))
+    (ap (λ cs. keeps_pairs b.places (text_of cs)) (run-steps_from painted (λ c. c) a.places a.last doc) ∙ h))

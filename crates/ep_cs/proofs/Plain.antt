@@ -16,6 +16,6 @@ pub length-text_of : (cs : List Cell) → length (text_of cs) ≡ length cs
 length-text_of [] = refl
 length-text_of (c ∷ cs) = ap suc (length-text_of cs)
 
--- documents without attributes are told by their texts
+-- documents without attributes are known by their texts
 pub same_plain : (us vs : Text) → plain us ≡ plain vs → us ≡ vs
 same_plain us vs e = sym (text_of-plain us) ∙ ap text_of e ∙ text_of-plain vs

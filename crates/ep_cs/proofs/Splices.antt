@@ -3,7 +3,7 @@ use Rattle.std.proofs.Common.{◌≡◌, ℕ, zero, suc, ◌+◌, ◌-◌, ◌�
 use Rattle.std.proofs.lemmas.List.{map-append, map-id, take-map, drop-map, replicate-append-replicate}
 use Rattle.ep_units.specs.Text.{Text}
 use Rattle.ep_attr.specs.AttrMap.{none}
-use Rattle.ep_cs.specs.Doc.{Cell, Doc, dressed}
+use Rattle.ep_cs.specs.Doc.{Cell, Doc, painted}
 use Rattle.ep_cs.specs.Edit.{Step, apply, identity, inserts, settle, with_place}
 use Rattle.ep_cs.specs.Edit.Fate.{Keep}
 use Rattle.ep_cs.specs.Edit.Step.{Pass}
@@ -15,7 +15,7 @@ use Rattle.ep_cs.proofs.Items.{length-settle}
 use Rattle.ep_cs.proofs.Plain.{length-plain}
 
 abbrev made : List Step → Doc → Doc
-made steps doc = run dressed (λ c. c) steps doc
+made steps doc = run painted (λ c. c) steps doc
 
 made-kept : (n : ℕ) (steps : List Step) (doc : Doc) → n ≤ length doc → made (kept n ++ steps) doc ≡ take n doc ++ made steps (drop n doc)
 made-kept zero steps doc h = refl
@@ -37,12 +37,12 @@ apply-splice at count piece doc h =
     let rest = kept (length doc - (at + count)) in
     let width : length (drop (at + count) doc) ≡ length doc - (at + count) = length-drop (at + count) doc in
     let behind : count ≤ length (drop at doc) = omega (arith, length-drop at doc) in
-    over-settle dressed (λ c. c) [] (kept at ++ (dropped count ++ (inserts piece ++ rest))) doc
+    over-settle painted (λ c. c) [] (kept at ++ (dropped count ++ (inserts piece ++ rest))) doc
     ∙ made-kept at (dropped count ++ (inserts piece ++ rest)) doc (omega arith)
     ∙ ap (λ (d : Doc). take at doc ++ d)
     (made-dropped count (inserts piece ++ rest) (drop at doc) behind
     ∙ ap (made (inserts piece ++ rest)) (drop-drop count at doc)
-    ∙ run_inserts dressed (λ c. c) piece rest (drop (at + count) doc)
+    ∙ run_inserts painted (λ c. c) piece rest (drop (at + count) doc)
     ∙ ap₂ (λ (a : Doc) (b : Doc). a ++ b) (map-id piece) (made-rest (length doc - (at + count)) (drop (at + count) doc) width))
 
 pub apply-splice-plain : (at : ℕ) (piece text : Text) → at ≤ length text

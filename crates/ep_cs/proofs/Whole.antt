@@ -2,7 +2,7 @@
 use Rattle.std.proofs.Common.{◌≡◌, Bool, true, false, cond, not, ◌&&◌, List, [], ◌∷◌, ◌++◌, map, length, refl, sym, ap, ◌∙◌, subst, T, ◌||◌, arith}
 use Rattle.std.proofs.lemmas.List.{map-append}
 use Rattle.ep_units.specs.Text.{Text, is_high, is_low, is_paired, is_well_formed}
-use Rattle.ep_cs.specs.Doc.{Cell, Doc, text_of, dressed}
+use Rattle.ep_cs.specs.Doc.{Cell, Doc, text_of, painted}
 use Rattle.ep_cs.specs.Edit.{Fate, Place, Edit, at_place, over, apply}
 use Rattle.ep_cs.specs.Edit.Fate.{Drop, Keep}
 use Rattle.ep_cs.specs.Fits.{goes_on, keeps_pairs, ArePieces}
@@ -28,17 +28,17 @@ no_half (Keep m) = refl
 
 -- what an edit makes of a place, before what it makes of those behind it
 abbrev placed : List Cell → Fate → Cell → Doc → Doc
-placed before g c rest = map (λ (d : Cell). d) before ++ (at_place dressed (λ d. d) g c ++ rest)
+placed before g c rest = map (λ (d : Cell). d) before ++ (at_place painted (λ d. d) g c ++ rest)
 
 -- a place behind no first half
 whole_place : (before : List Cell) (g : Fate) (c : Cell) (rest : Doc)
     → is_well_formed (text_of before) ≡ true → not (is_low c.unit) ≡ true → is_paired (is_kept g && is_high c.unit) (text_of rest) ≡ true
     → is_well_formed (text_of (placed before g c rest)) ≡ true
 whole_place before g c rest w low h =
-    ap is_well_formed (map-append (λ (d : Cell). d.unit) (map (λ (d : Cell). d) before) (at_place dressed (λ d. d) g c ++ rest) ∙ ap (λ ds. text_of ds ++ text_of (at_place dressed (λ d. d) g c ++ rest)) (same_cells before))
+    ap is_well_formed (map-append (λ (d : Cell). d.unit) (map (λ (d : Cell). d) before) (at_place painted (λ d. d) g c ++ rest) ∙ ap (λ ds. text_of ds ++ text_of (at_place painted (λ d. d) g c ++ rest)) (same_cells before))
     ∙ paired-append false (text_of before) _ w (end g h)
   where
-    end : (g : Fate) → is_paired (is_kept g && is_high c.unit) (text_of rest) ≡ true → is_well_formed (text_of (at_place dressed (λ d. d) g c ++ rest)) ≡ true
+    end : (g : Fate) → is_paired (is_kept g && is_high c.unit) (text_of rest) ≡ true → is_well_formed (text_of (at_place painted (λ d. d) g c ++ rest)) ≡ true
     end Drop h = h
     end (Keep m) h = both_true _ _ low h
 
@@ -67,7 +67,7 @@ goes_with false a e h = absurd (subst T (sym h) tt)
 over_whole : (half : Bool) (f : Fate) (ps : List Place) (last : List Cell) (doc : Doc)
     → length doc ≡ length ps → ArePieces ps last → keeps_pairs ps (text_of doc) ≡ true
     → (half ≡ true → goes_on f ps ≡ true) → is_paired half (text_of doc) ≡ true
-    → is_paired (is_kept f && half) (text_of (over dressed (λ c. c) ps last doc)) ≡ true
+    → is_paired (is_kept f && half) (text_of (over painted (λ c. c) ps last doc)) ≡ true
 over_whole true f [] last [] n pieces keeps on e = absurd (subst T (sym e) tt)
 over_whole false f [] last [] n pieces keeps on e =
     ap (λ b. is_paired b (text_of (map (λ (d : Cell). d) last))) (no_half f) ∙ ap (λ ds. is_well_formed (text_of ds)) (same_cells last) ∙ pieces
@@ -76,7 +76,7 @@ over_whole half f (p ∷ ps) last [] n pieces keeps on e = absurd (omega (arith,
 over_whole half f (p ∷ ps) last (c ∷ doc) n pieces keeps on e =
     let first = cond half (is_low c.unit) (not (is_low c.unit)) in
     let here = not (is_high c.unit) || goes_on p.fate ps in
-    next_place half f p c (over dressed (λ d. d) ps last doc) ps on pieces.0 (first_true first _ e)
+    next_place half f p c (over painted (λ d. d) ps last doc) ps on pieces.0 (first_true first _ e)
     (over_whole (is_high c.unit) p.fate ps last doc (omega (arith, n)) pieces.1 (second_true here _ keeps) (goes_with (is_high c.unit) (goes_on p.fate ps) (first_true here _ keeps)) (second_true first _ e))
 
 pub apply_whole : (e : Edit) (doc : Doc) → length doc ≡ length e.places → ArePieces e.places e.last

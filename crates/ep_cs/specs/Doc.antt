@@ -14,8 +14,8 @@ abbrev pub text_of : Doc → Text
 text_of d = map (λ c. c.unit) d
 
 -- the cell after a change's map
-abbrev pub dressed : Cell → AttrMap → Cell
-dressed c m = record { unit = c.unit; attrs = after c.attrs m }
+abbrev pub painted : Cell → AttrMap → Cell
+painted c m = record { unit = c.unit; attrs = after c.attrs m }
 
 -- the halves of each pair have equal maps
 abbrev pub has_equal_halves : Doc → Bool

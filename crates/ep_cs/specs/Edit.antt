@@ -1,7 +1,7 @@
 -- Edits: what a change does at each place and gap, and its meaning.
 use Rattle.std.specs.Prelude.{◌≡◌, ℕ, zero, suc, ◌+◌, Bool, true, false, not, ◌&&◌, ◌||◌, List, [], ◌∷◌, ◌++◌, map, length}
 use Rattle.ep_attr.specs.AttrMap.{AttrMap, none, join}
-use Rattle.ep_cs.specs.Doc.{Cell, Doc, dressed}
+use Rattle.ep_cs.specs.Doc.{Cell, Doc, painted}
 
 -- what becomes of a place
 pub data Fate : Type 0 where
@@ -47,7 +47,7 @@ module _ {X : Type 0} (kept : X → AttrMap → X) (new : Cell → X) where
 
 -- a document after an edit
 abbrev pub apply : Edit → Doc → Doc
-apply e doc = over dressed (λ c. c) e.places e.last doc
+apply e doc = over painted (λ c. c) e.places e.last doc
 
 -- an element of the result: a place that is kept with a map, or a new cell
 pub data Item : Type 0 where
@@ -55,9 +55,9 @@ pub data Item : Type 0 where
   New : Cell → Item
 
 -- the item after one more map
-abbrev pub painted : Item → AttrMap → Item
-painted (Kept place m) c = Kept place (join m c)
-painted (New cell) c = New (dressed cell c)
+abbrev pub painted_item : Item → AttrMap → Item
+painted_item (Kept place m) c = Kept place (join m c)
+painted_item (New cell) c = New (painted cell c)
 
 -- n places from i on, as they are
 abbrev pub numbered : ℕ → ℕ → List Item
@@ -66,7 +66,7 @@ numbered i (suc n) = Kept i none ∷ numbered (i + 1) n
 
 -- what an edit makes of a list of items
 abbrev pub apply_items : Edit → List Item → List Item
-apply_items e items = over painted New e.places e.last items
+apply_items e items = over painted_item New e.places e.last items
 
 -- the result as items
 abbrev pub items : Edit → List Item
@@ -104,7 +104,7 @@ steps_of e = steps_from e.places e.last
 -- what becomes of a new cell
 abbrev pub step_over_new : Cell → Fate → List Step
 step_over_new c Drop = []
-step_over_new c (Keep m) = Insert (dressed c m) ∷ []
+step_over_new c (Keep m) = Insert (painted c m) ∷ []
 
 -- what becomes of a place that was kept with m
 abbrev pub fate_over : AttrMap → Fate → Fate

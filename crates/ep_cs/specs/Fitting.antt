@@ -40,7 +40,7 @@ abbrev pub cuts : Option ℕ → Option FitBad
 cuts None = None
 cuts (Some at) = Some (CutsPair at)
 
--- a run that says something false is told before a cut pair
+-- a run that says something false counts before a cut pair
 abbrev pub untrue_or : Option ℕ → Option FitBad → Option FitBad
 untrue_or None later = later
 untrue_or (Some i) later = Some (Newlines i)

@@ -1,4 +1,4 @@
--- Runs that stand in normal form as they were written.
+-- Working words of private contracts: runs that stand in normal form as they were written.
 use Rattle.std.specs.Prelude.{◌≡◌, ℕ, ◌≤◌, true, List, [], ◌∷◌}
 use Rattle.ep_cs.specs.declared.op.Kind.{Kind}
 use Rattle.ep_cs.specs.declared.op.Kind.TheVariants as kind

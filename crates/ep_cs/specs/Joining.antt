@@ -1,4 +1,4 @@
--- A run that is written as one with the first of the runs behind it.
+-- Working words of private contracts: a run that is written as one with the first of the runs behind it.
 use Rattle.std.specs.Prelude.{◌≡◌, true, List, [], ◌∷◌}
 use Rattle.ep_cs.specs.declared.op.Op.{Op}
 use Rattle.ep_cs.specs.Normal.{joins}

@@ -21,5 +21,7 @@ pub mod Room
 pub mod Joining
 pub mod Taken
 pub mod Lines
+pub mod Longer
 pub mod Draft
 pub mod Packed
+pub mod Kept

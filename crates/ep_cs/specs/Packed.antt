@@ -1,6 +1,6 @@
 -- What a packed change and a builder hold.
 use Rattle.std.specs.Prelude.{◌≡◌, ◌≤◌, ◌^◌, ◌<◌, length}
-use Rattle.ep_cs.specs.declared.packed.Change.TheInside as packed
+use Rattle.ep_cs.specs.declared.packed.Packed.TheInside as packed
 use Rattle.ep_cs.specs.declared.builder.Builder.TheInside as builder
 use Rattle.ep_cs.specs.Runs.{steps_of, marks_of, all_passed}
 use Rattle.ep_cs.specs.Change.{Change, change_of}
@@ -23,14 +23,14 @@ pub record IsPacked (c : packed.Inside) : Type 0 where
   pub short : c.new_len < 2 ^ 32
   pub pieces : AreDocuments (packed_change c).edit.places (packed_change c).edit.last
 
--- what a builder was told
-abbrev pub told : builder.Inside → Draft
-told b = record { old = b.old_len; steps = steps_of b.ops.items b.bank; marks = marks_of b.ops.items }
+-- the draft that a builder has begun
+abbrev pub begun : builder.Inside → Draft
+begun b = record { old = b.old_len; steps = steps_of b.ops.items b.bank; marks = marks_of b.ops.items }
 
-pub record IsTold (b : builder.Inside) : Type 0 where
+pub record IsBegun (b : builder.Inside) : Type 0 where
   pub inside : all_passed b.ops.items ≤ b.old_len
   pub written : AreWritten b.ops.items b.bank
   pub lined : AreLined b.ops.items
-  pub new : b.new_len ≡ new_length (told b)
+  pub new : b.new_len ≡ new_length (begun b)
   pub few : length b.bank < 2 ^ 32
   pub old : b.old_len < 2 ^ 32

@@ -1,4 +1,4 @@
--- Room for a run before runs.
+-- Working words of private contracts: room for a run before runs.
 use Rattle.std.specs.Prelude.{◌≡◌, ◌+◌, ◌<◌, ◌^◌, true, List, [], ◌∷◌}
 use Rattle.ep_cs.specs.declared.op.Op.{Op}
 use Rattle.ep_cs.specs.Normal.{joins}

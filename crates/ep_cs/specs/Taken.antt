@@ -1,4 +1,4 @@
--- Where the builder's end is: what is left to take, and what is made, from the last to the first.
+-- Working words of private contracts: where the builder's end is: what is left to take, and what is made, from the last to the first.
 use Rattle.std.specs.Prelude.{◌≡◌, ℕ, ◌+◌, ◌<◌, ◌^◌, List, ◌++◌, reverse, length, drop}
 use Rattle.ep_units.specs.Text.{Text}
 use Rattle.ep_cs.specs.declared.op.Kind.{Kind}

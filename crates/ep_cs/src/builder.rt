@@ -1,14 +1,17 @@
 //! Changes written from left to right.
 
-ghost use Rattle.std.specs.Prelude.{◌≡◌, ◌+◌, ◌≤◌, ◌^◌, ◌<◌, length, OnOk, OnErr, IfOk};
+ghost use Rattle.std.specs.Prelude.{◌≡◌, true, false, ◌+◌, ◌≤◌, ◌^◌, ◌<◌, length, OnOk, OnErr, IfOk};
 ghost use Rattle.ep_cs.specs.Steps.{passed};
 ghost use Rattle.ep_cs.specs.Draft.{blank, keeping, dropping, inserting, drafted, inserted_by, new_length};
 ghost use Rattle.ep_cs.specs.Fits.{AreDocuments};
+ghost use Rattle.ep_cs.specs.Runs.{all_passed};
+ghost use Rattle.ep_cs.specs.Longer.{LastGoesOn};
 
+use crate::change::Change;
 use crate::new_map::without_empty;
 use crate::normal::normal;
 use crate::op::{Kind, Op};
-use crate::packed::Change;
+use crate::packed::Packed;
 use ep_attr::AttrMap;
 use ep_units::{NoMemory, Units};
 use std::alloc::Global;
@@ -32,11 +35,23 @@ impl Model for Builder {
 
     ghost coded = { coded_draft };
 
-    ghost use Rattle.ep_cs.specs.Packed.{told, IsTold};
+    ghost use Rattle.ep_cs.specs.Packed.{begun, IsBegun};
 
-    ghost view = { told };
+    ghost view = { begun };
 
-    ghost invariant = { IsTold };
+    ghost invariant = { IsBegun };
+}
+
+/// Lengthens the last operation by kept units, where it keeps units without newlines with the same map.
+fn go_on(ops: &mut Vec<Op>, units: u32, lines: u32, attrs: &AttrMap) -> bool
+    requires room { all_passed ops.old.items + units < 2 ^ 32 }
+    ensures longer { result ≡ true → LastGoesOn ops.old.items units lines attrs.now ops.new.items }
+    ensures same { result ≡ false → ops.new.items ≡ ops.old.items }
+{
+    match ops.last_mut() {
+        Some(last) => last.go_on(units, lines, attrs),
+        None => false,
+    }
 }
 
 impl Builder {
@@ -89,14 +104,18 @@ impl Builder {
         ensures ok { OnOk result (self.new ≡ keeping self.old units lines attrs) }
         ensures err { OnErr result (self.new ≡ self.old) }
     {
-        if units > 0 {
-            self.ops.push(Op {
-                kind: Kind::Keep,
-                units,
-                lines,
-                attrs,
-            })?;
+        if units == 0 {
+            return Ok(());
         }
+        if go_on(&mut self.ops, units, lines, &attrs) {
+            return Ok(());
+        }
+        self.ops.push(Op {
+            kind: Kind::Keep,
+            units,
+            lines,
+            attrs,
+        })?;
         Ok(())
     }
 
@@ -167,12 +186,15 @@ impl Builder {
             bank,
         } = self;
         let ops = normal(alloc, old_len, ops, bank.as_slice())?;
-        Ok(Change {
-            old_len,
-            new_len: new_len as u32,
-            ops,
-            bank,
-        })
+        Change::packed(
+            alloc,
+            Packed {
+                old_len,
+                new_len: new_len as u32,
+                ops,
+                bank,
+            },
+        )
     }
 }
 

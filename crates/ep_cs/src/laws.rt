@@ -24,7 +24,7 @@ pub fn composed_by_items()
 {}
 
 /// A composition is settled, and settled edits of as many units with the same items are equal.
-pub fn told_by_items()
+pub fn known_by_items()
     ensures settled { (a b : Edit) → IsSettled (compose a b) }
     ensures length { (a b : Edit) → length (compose a b).places ≡ length a.places }
     ensures one { (a b : Edit) → IsSettled a → IsSettled b → length a.places ≡ length b.places → items a ≡ items b → a ≡ b }
@@ -41,10 +41,10 @@ pub fn identity_is_unit()
     ensures right { (a : Edit) → IsSettled a → compose a (identity (length (items a))) ≡ a }
 {}
 
-/// The identity leaves a document as it is, and no other edit is told as one.
+/// The identity leaves a document as it is, and no other edit counts as one.
 pub fn identity_changes_nothing()
     ensures applied { (doc : Doc) → apply (identity (length doc)) doc ≡ doc }
-    ensures told { (n : ℕ) → is_identity (identity n) ≡ true }
+    ensures itself { (n : ℕ) → is_identity (identity n) ≡ true }
     ensures one { (e : Edit) → is_identity e ≡ true → e ≡ identity (length e.places) }
 {}
 
@@ -58,7 +58,7 @@ pub fn splice_replaces()
         → apply (splice (length text) at 0 (plain piece)) (plain text) ≡ plain (take at text ++ (piece ++ drop at text)) }
 {}
 
-/// A text without attributes is told by its units.
+/// A text without attributes is known by its units.
 pub fn plain_is_its_text()
     ensures { (text : Text) → text_of (plain text) ≡ text }
 {}
@@ -87,7 +87,7 @@ pub fn texts_stay_well_formed()
         → is_well_formed (text_of (apply e doc)) ≡ true }
 {}
 
-/// A change that fits a document is told by what it does there.
+/// A change that fits a document is known by what it does there.
 pub fn fitting_is_stamped()
     ensures { (c : Change) (doc : Doc) → Fits c doc → c ≡ stamped c.edit (text_of doc) }
 {}

@@ -1,8 +1,9 @@
 //! The operations of changeset text.
 
-ghost use Rattle.std.specs.Prelude.{◌≡◌, ◌≤◌, IfOk};
+ghost use Rattle.std.specs.Prelude.{◌≡◌, true, false, ◌+◌, ◌<◌, ◌≤◌, ◌^◌, IfOk};
 ghost use Rattle.ep_cs.specs.Runs.{inserted, passed};
 ghost use Rattle.ep_cs.specs.Normal.{joins, is_bare, same_kind};
+ghost use Rattle.ep_cs.specs.Longer.{GoesOn};
 
 use ep_attr::AttrMap;
 use ep_units::NoMemory;
@@ -77,6 +78,26 @@ impl Op {
             Kind::Keep => self.attrs.is_none(),
             _ => false,
         }
+    }
+
+    /// Keeps so many units more, where it keeps units without newlines with the same map.
+    pub(crate) fn go_on(&mut self, units: u32, lines: u32, attrs: &AttrMap) -> bool
+        requires room { passed self.old.kind self.old.units + units < 2 ^ 32 }
+        ensures longer { result ≡ true → GoesOn self.old units lines attrs.now self.new }
+        ensures same { result ≡ false → self.new ≡ self.old }
+    {
+        let Kind::Keep = self.kind else {
+            return false;
+        };
+        if self.lines > 0 {
+            return false;
+        }
+        let same = self.attrs == *attrs;
+        if same {
+            self.units += units;
+            self.lines = lines;
+        }
+        same
     }
 
     /// The same operation again.

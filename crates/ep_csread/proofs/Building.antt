@@ -16,9 +16,9 @@ use Rattle.ep_cs.specs.Draft.{Draft, blank, drafted, dropped_by, inserted_by, ne
 use Rattle.ep_cs.specs.NormalRuns.{AreLined}
 use Rattle.ep_cs.proofs.Drafts.{drafted_is, dropped-append, inserted-append, dropped_times, kept_times, inserted_times, inserted_units}
 use Rattle.ep_csread.specs.Reading.{dropped, all_dropped}
-use Rattle.ep_csread.specs.Built.{putting, IsDressed, AreDressed}
+use Rattle.ep_csread.specs.Built.{putting, NewHasNoEmpty, NewHaveNoEmpty}
 
--- what a builder was told of the first n operations, which insert the first units of the bank
+-- what a builder has begun of the first n operations, which insert the first units of the bank
 pub record IsSoFar (old : ℕ) (ops : List Op) (bank : Text) (n used : ℕ) (d : Draft) : Type 0 where
   pub same_old : d.old ≡ old
   pub steps : d.steps ++ steps_of (drop n ops) (drop used bank) ≡ steps_of ops bank
@@ -27,10 +27,10 @@ pub record IsSoFar (old : ℕ) (ops : List Op) (bank : Text) (n used : ℕ) (d :
   pub few : inserted_by d.steps ≡ used
   pub inside : steps_passed d.steps + all_passed (drop n ops) ≤ old
   pub lined : AreLined (drop n ops)
-  pub dressed : AreDressed (drop n ops)
+  pub no_empty : NewHaveNoEmpty (drop n ops)
 
-pub begins : (old : ℕ) (ops : List Op) (bank : Text) → all_inserted ops ≡ length bank → all_passed ops ≤ old → AreLined ops → AreDressed ops → IsSoFar old ops bank 0 0 (blank old)
-begins old ops bank whole inside lined dressed = record {
+pub begins : (old : ℕ) (ops : List Op) (bank : Text) → all_inserted ops ≡ length bank → all_passed ops ≤ old → AreLined ops → NewHaveNoEmpty ops → IsSoFar old ops bank 0 0 (blank old)
+begins old ops bank whole inside lined no_empty = record {
   same_old = refl;
   steps = refl;
   marks = refl;
@@ -38,10 +38,10 @@ begins old ops bank whole inside lined dressed = record {
   few = refl;
   inside = omega (arith, inside);
   lined = lined;
-  dressed = dressed;
+  no_empty = no_empty;
 }
 
-steps_put : (k : Kind) (n : ℕ) (m : AttrMap) (lines : ℕ) (d : Draft) (text : Text) → IsDressed k m → (putting k d n lines m text).steps ≡ d.steps ++ run_steps k n m text
+steps_put : (k : Kind) (n : ℕ) (m : AttrMap) (lines : ℕ) (d : Draft) (text : Text) → NewHasNoEmpty k m → (putting k d n lines m text).steps ≡ d.steps ++ run_steps k n m text
 steps_put kinds.Keep n m lines d text e = refl
 steps_put kinds.Drop n m lines d text e = refl
 steps_put kinds.Insert n m lines d text e = ap (λ (m : AttrMap). d.steps ++ inserts (cells m text)) (sym e)
@@ -111,9 +111,9 @@ pub goes_on : (old : ℕ) (ops : List Op) (bank text : Text) (n used : ℕ) (d d
 goes_on old ops bank text n used d d' o s h e t is =
     let i = next ops n o h e in
     let k = inserted o.kind o.units in
-    let dressed = subst AreDressed i s.dressed in
+    let no_empty = subst NewHaveNoEmpty i s.no_empty in
     let width : length text ≡ k = ap length t ∙ length-take-le k (drop used bank) (omega (arith, length-drop used bank, s.room, ap all_inserted i)) in
-    let steps : d'.steps ≡ d.steps ++ op_steps o text = ap (λ (d : Draft). d.steps) is ∙ steps_put o.kind o.units o.attrs o.lines d text dressed.0 in
+    let steps : d'.steps ≡ d.steps ++ op_steps o text = ap (λ (d : Draft). d.steps) is ∙ steps_put o.kind o.units o.attrs o.lines d text no_empty.0 in
     let rest = steps_of (drop (n + 1) ops) (drop (used + k) bank) in
     record {
       same_old = ap (λ (d : Draft). d.old) is ∙ old_put o.kind o.units o.attrs o.lines d text ∙ s.same_old;
@@ -129,7 +129,7 @@ goes_on old ops bank text n used d d' o s h e t is =
       few = ap inserted_by steps ∙ inserted-append d.steps (op_steps o text) ∙ ap₂ (λ (a b : ℕ). a + b) s.few (inserted_run o.kind o.units o.attrs text width);
       inside = omega (arith, s.inside, ap all_passed i, ap steps_passed steps, passed-append d.steps (op_steps o text), passed_run o.kind o.units o.attrs text);
       lined = (subst AreLined i s.lined).1;
-      dressed = dressed.1;
+      no_empty = no_empty.1;
     }
 
 dropped_all : (ops : List Op) (bank : Text) → dropped_by (steps_of ops bank) ≡ all_dropped ops
@@ -139,7 +139,7 @@ dropped_all (o ∷ os) bank =
     dropped-append (op_steps o (take k bank)) (steps_of os (drop k bank))
     ∙ ap₂ (λ (a b : ℕ). a + b) (dropped_run o.kind o.units o.attrs (take k bank)) (dropped_all os (drop k bank))
 
--- what a builder was told of all operations
+-- what a builder has begun of all operations
 pub record IsAll (old : ℕ) (ops : List Op) (bank : Text) (d : Draft) : Type 0 where
   pub change : drafted d ≡ change_of old ops bank
   pub new : new_length d ≡ old - all_dropped ops + all_inserted ops

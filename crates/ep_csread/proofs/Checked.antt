@@ -16,7 +16,7 @@ use Rattle.ep_csread.specs.Spelling.{said}
 use Rattle.ep_csread.specs.Syntax.{Operation, Parts, parts_of, attrib_at, attribs_at, is_some_text}
 use Rattle.ep_csread.specs.Grammar.{AreItems, sign}
 use Rattle.ep_csread.specs.Reading.{first_some, first_such, mapped, unless, is_big, op_numbers, all_numbers, map_from, map_for, all_resolved, holds_lines, is_lined, first_unlined, first_half, dropped, all_dropped, is_difference, has_lengths, largest, missing_refused, bank_refused, lines_refused, pair_refused}
-use Rattle.ep_csread.specs.Built.{IsDressed, AreDressed, AreInserts}
+use Rattle.ep_csread.specs.Built.{NewHasNoEmpty, NewHaveNoEmpty, AreInserts}
 use Rattle.ep_csread.proofs.Cuts.{same_cut}
 use Rattle.ep_csread.proofs.Named.{small_first}
 use Rattle.ep_csread.proofs.Takes.{Takes, items_take, attrib_takes, attrib_inserts, text_takes, writing_of}
@@ -137,14 +137,14 @@ mapped_none f (Some x) e = absurd cc
 pub lines_none : (os : List Op) (bank : Text) → lines_refused os bank ≡ None → AreLined os
 lines_none os bank e = all_lined 0 os bank (mapped_none (λ (i : ℕ). bad.Lines i) (first_unlined 0 os bank) e)
 
-dressed_for : (k : Kind) (m : AttrMap) → IsDressed k (map_for k m)
-dressed_for kinds.Keep m = tt
-dressed_for kinds.Drop m = tt
-dressed_for kinds.Insert m = once m
+no_empty_for : (k : Kind) (m : AttrMap) → NewHasNoEmpty k (map_for k m)
+no_empty_for kinds.Keep m = tt
+no_empty_for kinds.Drop m = tt
+no_empty_for kinds.Insert m = once m
 
-pub all_dressed : (pool : List Pair) (os : List Operation) → AreDressed (all_resolved pool os)
-all_dressed pool [] = tt
-all_dressed pool (o ∷ os) = (dressed_for o.kind (map_from pool none (said o).stars), all_dressed pool os)
+pub all_no_empty : (pool : List Pair) (os : List Operation) → NewHaveNoEmpty (all_resolved pool os)
+all_no_empty pool [] = tt
+all_no_empty pool (o ∷ os) = (no_empty_for o.kind (map_from pool none (said o).stars), all_no_empty pool os)
 
 pub record HasLengths (old : ℕ) (shrinks : Bool) (difference : ℕ) (os : List Op) : Type 0 where
   pub inside : all_passed os ≤ old
@@ -193,8 +193,8 @@ spread_lined pool written bank made e =
     let z = none_of (lines_refused os bank) [] y.behind in
     subst AreLined (what_is o os made e) (lines_none os bank z.here)
 
-pub spread_dressed : (o : Option ReadBad) (pool : List Pair) (os : List Operation) (made : List Op) → unless o (all_resolved pool os) ≡ Ok made → AreDressed made
-spread_dressed o pool os made e = subst AreDressed (what_is o (all_resolved pool os) made e) (all_dressed pool os)
+pub spread_no_empty : (o : Option ReadBad) (pool : List Pair) (os : List Operation) (made : List Op) → unless o (all_resolved pool os) ≡ Ok made → NewHaveNoEmpty made
+spread_no_empty o pool os made e = subst NewHaveNoEmpty (what_is o (all_resolved pool os) made e) (all_no_empty pool os)
 
 pub syntax_ok : (text : Text) (r : Result Parts ℕ) (p : Parts) → syntax_read text r ≡ Ok p → r ≡ Ok p
 syntax_ok text (Ok q) p e = ap (λ (p : Parts). okay p) (ap (got q) e)

@@ -1,4 +1,4 @@
--- Where reading stops is told by the units up to there alone.
+-- Where reading stops is known by the units up to there alone.
 use Rattle.std.proofs.Common.{◌≡◌, ℕ, zero, suc, ◌+◌, ◌-◌, ◌<◌, Bool, true, false, cond, not, eqb, ◌||◌, Option, Some, None, List, [], ◌∷◌, ◌++◌, length, take, min, Result, Ok, Err, refl, sym, ap, ap₂, ◌∙◌, arith, append_assoc, length-append}
 use Rattle.ep_units.specs.Text.{Text}
 use Rattle.ep_units.specs.Base36.{is_digit, digits_of, behind}
@@ -196,7 +196,7 @@ module _ {A : Type 0} (more : Text → Bool) (item : Text → Result (A × Text)
           ap (λ (r : Result (List A × Text) ℕ). rest_of r) (many_more more item s t a after b i) ∙ with_first_rest a (many more item after)
           ∙ sym (ap (λ (r : Result (A × Text) ℕ). rest_of r >>= (λ u. rest_of (many more item u))) i)
 
-  -- whether there are more is told by the first unit
+  -- whether there are more is known by the first unit
   abbrev ByHead : Type 0
   ByHead = (front : Text) (unit : ℕ) (rest other : Text) → more (front ++ unit ∷ rest) ≡ more (front ++ unit ∷ other)
 

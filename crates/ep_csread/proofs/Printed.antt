@@ -23,7 +23,7 @@ use Rattle.ep_csread.proofs.Maps.{numbered}
 use Rattle.ep_csread.proofs.Round.{IsSpelled, spelled_runs, new_length, read_again, read_again_alone, all_inserts, all_there, all_maps, small_ops}
 use Rattle.ep_csread.proofs.Halves.{halves_meet}
 
--- ---- the two ways in which the spelling is told
+-- ---- the two ways in which the spelling is known
 
 difference_is : (old new : ℕ) (rest : Text) → difference_text old new ++ rest ≡ sign_text (nat_lt new old) ∷ (write36 (cond (nat_lt new old) (old - new) (new - old)) ++ rest)
 difference_is old new rest = go (nat_le old new) (nat_lt new old) refl refl

@@ -15,14 +15,14 @@ putting kinds.Drop d units lines m text = dropping d units lines
 putting kinds.Insert d units lines m text = inserting d text m
 
 -- a map on new text has no empty value
-abbrev pub IsDressed : Kind → AttrMap → Type 0
-IsDressed kinds.Keep m = Unit {0}
-IsDressed kinds.Drop m = Unit {0}
-IsDressed kinds.Insert m = m ≡ after none m
+abbrev pub NewHasNoEmpty : Kind → AttrMap → Type 0
+NewHasNoEmpty kinds.Keep m = Unit {0}
+NewHasNoEmpty kinds.Drop m = Unit {0}
+NewHasNoEmpty kinds.Insert m = m ≡ after none m
 
-abbrev pub AreDressed : List Op → Type 0
-AreDressed [] = Unit {0}
-AreDressed (o ∷ os) = IsDressed o.kind o.attrs × AreDressed os
+abbrev pub NewHaveNoEmpty : List Op → Type 0
+NewHaveNoEmpty [] = Unit {0}
+NewHaveNoEmpty (o ∷ os) = NewHasNoEmpty o.kind o.attrs × NewHaveNoEmpty os
 
 abbrev pub AreInserts : List Operation → Type 0
 AreInserts os = AllByRecursion (λ (o : Operation). o.kind ≡ kinds.Insert) os

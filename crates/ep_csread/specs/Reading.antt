@@ -130,7 +130,7 @@ has_lengths old shrinks difference os =
 abbrev pub largest : ℕ
 largest = 18446744073709551615
 
--- each reason, in the order in which they count; a place is told by how many units stand from it on
+-- each reason, in the order in which they count; a place is given by how many units stand from it on
 abbrev pub numbers_refused : Text → List Number → Option ReadBad
 numbers_refused text ns = mapped (λ (n : Number). bad.Number (length text - n.left)) (first_such is_big ns)
 

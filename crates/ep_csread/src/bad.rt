@@ -17,7 +17,7 @@ pub enum ReadBad {
     /// The pool has no such number.
     #[error("no attribute {0}")]
     NoAttr(u64),
-    /// The operations insert so many units, or more than a `u64` tells, and the bank has so many.
+    /// The operations insert so many units, or more than a `u64` holds, and the bank has so many.
     #[error("{0} units are inserted, and {1} are there")]
     Bank(u64, u64),
     /// The newlines of this operation are others, or not at its end.

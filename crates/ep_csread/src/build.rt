@@ -8,7 +8,7 @@ ghost use Rattle.ep_cs.specs.NormalRuns.{AreLined};
 ghost use Rattle.ep_cs.specs.Runs.{all_inserted, all_passed, passed as passed_by};
 ghost use Rattle.ep_cs.specs.Steps.{passed};
 ghost use Rattle.ep_csread.specs.Reading.{all_dropped};
-ghost use Rattle.ep_csread.specs.Built.{AreDressed, putting};
+ghost use Rattle.ep_csread.specs.Built.{NewHaveNoEmpty, putting};
 
 use ep_cs::{Builder, Change, Kind, Op};
 use ep_units::NoMemory;
@@ -19,7 +19,7 @@ pub fn built(alloc: Global, old_len: u32, ops: Vec<Op>, bank: &[u16]) -> Result<
     requires whole { all_inserted ops.items ≡ length bank.now }
     requires inside { all_passed ops.items ≤ old_len }
     requires lined { AreLined ops.items }
-    requires dressed { AreDressed ops.items }
+    requires no_empty { NewHaveNoEmpty ops.items }
     requires short { old_len - all_dropped ops.items + all_inserted ops.items < 2 ^ 32 }
     requires pieces { let c = change_of old_len ops.items bank.now in AreDocuments c.edit.places c.edit.last }
     ensures { IfOk result (λ c. c ≡ change_of old_len ops.items bank.now) }

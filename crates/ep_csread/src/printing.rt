@@ -14,6 +14,9 @@ use ep_pool::Pool;
 use ep_units::{NoMemory, Units, write36};
 use std::alloc::Global;
 
+/// For how many units there is room beside the bank: the spelling of a letter has fewer.
+const ROOM: usize = 32;
+
 fn kind_unit(kind: Kind) -> u16
     ensures { result ≡ kind_text kind }
 {
@@ -160,7 +163,7 @@ pub fn print(alloc: Global, change: &Change, pool: &Pool) -> Result<Units, NoMem
     requires { has_pairs pool.now.pairs change.now.runs ≡ true }
     ensures { IfOk result (λ text. text ≡ printed pool.now.pairs change.now) }
 {
-    let mut out = Units::new(alloc);
+    let mut out = Units::with_capacity(alloc, change.bank().len().saturating_add(ROOM))?;
     write_lengths(change.old_len(), change.new_len(), &mut out)?;
     write_ops(alloc, change.ops(), pool, &mut out)?;
     out.push(36)?;

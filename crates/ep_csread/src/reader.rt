@@ -6,7 +6,7 @@ ghost use Rattle.ep_units.specs.Text.{is_well_formed};
 ghost use Rattle.ep_cs.specs.Change.{change_of};
 ghost use Rattle.ep_cs.specs.NormalRuns.{AreLined};
 ghost use Rattle.ep_cs.specs.Runs.{all_inserted, all_passed};
-ghost use Rattle.ep_csread.specs.Built.{AreDressed, AreInserts};
+ghost use Rattle.ep_csread.specs.Built.{NewHaveNoEmpty, AreInserts};
 ghost use Rattle.ep_csread.specs.Syntax.{parts_of, attribs_at};
 ghost use Rattle.ep_csread.specs.Reading.{all_dropped, all_resolved, bank_refused, counted, counted_attribs, first_some, first_such, is_big, lines_refused, missing_refused, op_numbers, pair_refused, reading, reading_attribs, unless};
 ghost use Rattle.ep_csread.specs.Grammar.{SyntaxEnds};
@@ -71,7 +71,7 @@ fn whole(alloc: Global, old_len: u32, ops: Vec<Op>, bank: &[u16]) -> Result<Chan
     requires whole { all_inserted ops.items ≡ length bank.now }
     requires inside { all_passed ops.items ≤ old_len }
     requires lined { AreLined ops.items }
-    requires dressed { AreDressed ops.items }
+    requires no_empty { NewHaveNoEmpty ops.items }
     requires short { old_len - all_dropped ops.items + all_inserted ops.items < 2 ^ 32 }
     requires well_formed { is_well_formed bank.now ≡ true }
     ensures { Answers (λ c. c) result (unless (pair_refused ops.items bank.now) (change_of old_len ops.items bank.now)) }

@@ -2,7 +2,7 @@
 use Rattle.std.proofs.Common.{◌≡◌, ℕ, zero, suc, ◌+◌, ◌≤◌, List, [], ◌∷◌, ◌++◌, length, take, drop, replicate, refl, sym, ap, ◌∙◌, arith, append_assoc}
 use Rattle.ep_units.specs.Text.{Text}
 use Rattle.ep_attr.specs.AttrMap.{AttrMap}
-use Rattle.ep_cs.specs.Doc.{Cell, Doc, text_of, dressed}
+use Rattle.ep_cs.specs.Doc.{Cell, Doc, text_of, painted}
 use Rattle.ep_cs.specs.Edit.{Fate, Step, inserts, at_place}
 use Rattle.ep_cs.specs.Edit.Fate.{Drop, Keep}
 use Rattle.ep_cs.specs.Edit.Step.{Insert, Pass}
@@ -52,7 +52,7 @@ text_new m [] us = refl
 text_new m (u ∷ t) us = ap (λ vs. u ∷ vs) (text_new m t us)
 
 -- the text of what steps make of a document
-pub text_run : (steps : List Step) (doc : Doc) → text_of (run dressed (λ c. c) steps doc) ≡ text_made steps (text_of doc)
+pub text_run : (steps : List Step) (doc : Doc) → text_of (run painted (λ c. c) steps doc) ≡ text_made steps (text_of doc)
 text_run [] doc = refl
 text_run (Insert c ∷ steps) doc = ap (λ us. c.unit ∷ us) (text_run steps doc)
 text_run (Pass Drop ∷ steps) [] = text_run steps []

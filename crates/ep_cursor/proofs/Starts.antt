@@ -1,8 +1,8 @@
 -- All of a change: what its steps are, and what its runs say of a document that it fits.
 use Rattle.std.proofs.Common.{◌≡◌, ℕ, zero, suc, ◌+◌, ◌-◌, ◌≤◌, List, [], ◌∷◌, length, take, drop, sym, ap, ◌∙◌, subst, arith, length-drop}
 use Rattle.ep_units.specs.Text.{Text}
-use Rattle.ep_cs.specs.Doc.{Doc, text_of, dressed}
-use Rattle.ep_cs.specs.Edit.{Edit, Item, apply, apply_items, edit_of, painted, numbered}
+use Rattle.ep_cs.specs.Doc.{Doc, text_of, painted}
+use Rattle.ep_cs.specs.Edit.{Edit, Item, apply, apply_items, edit_of, painted_item, numbered}
 use Rattle.ep_cs.specs.Edit.Item.{New}
 use Rattle.ep_cs.specs.Steps.{passed as steps_passed}
 use Rattle.ep_cs.specs.Change.{Change, bank_of}
@@ -34,15 +34,15 @@ given_left c n =
     let s = steps_left (left_of c) in
     let places = length c.edit.places in
     let is : List Item = numbered 0 places in
-    sym (length-run painted New s is (omega (arith, passed_left c n, length-numbered 0 places)))
-    ∙ ap length (sym (over-settle painted New [] s is))
+    sym (length-run painted_item New s is (omega (arith, passed_left c n, length-numbered 0 places)))
+    ∙ ap length (sym (over-settle painted_item New [] s is))
     ∙ ap (λ (e : Edit). length (apply_items e is)) (sym (edit_left c n))
 
 -- the text of a document after the change
 pub text_left : (c : Change) → IsNormal c → (doc : Doc) → text_of (apply c.edit doc) ≡ text_made (steps_left (left_of c)) (text_of doc)
 text_left c n doc =
     let s = steps_left (left_of c) in
-    ap (λ (e : Edit). text_of (apply e doc)) (edit_left c n) ∙ ap text_of (over-settle dressed (λ c. c) [] s doc) ∙ text_run s doc
+    ap (λ (e : Edit). text_of (apply e doc)) (edit_left c n) ∙ ap text_of (over-settle painted (λ c. c) [] s doc) ∙ text_run s doc
 
 at_least : (n : ℕ) (us : Text) → length (take n us) ≡ n → n ≤ length us
 at_least zero us e = omega arith

@@ -1,4 +1,4 @@
--- What steps make of a text, and how much they give.
+-- Working words of private contracts: what steps make of a text, and how much they give.
 use Rattle.std.specs.Prelude.{ℕ, suc, List, [], ◌∷◌}
 use Rattle.ep_units.specs.Text.{Text}
 use Rattle.ep_cs.specs.Edit.{Step}

@@ -1,4 +1,4 @@
--- What runs say of the text that they pass and of the one that they insert.
+-- Working words of private contracts: what runs say of the text that they pass and of the one that they insert.
 use Rattle.std.specs.Prelude.{ℕ, ◌-◌, ◌≤◌, List, [], ◌∷◌, length, take, drop}
 use Rattle.ep_units.specs.Text.{Text}
 use Rattle.ep_cs.specs.Change.{newlines}

@@ -1,4 +1,4 @@
--- A change that is being written, and what it says of a text.
+-- Working words of private contracts: a change that is being written, and what it says of a text.
 use Rattle.std.specs.Prelude.{◌≡◌, ◌≤◌, List, length}
 use Rattle.ep_units.specs.Text.{Text}
 use Rattle.ep_cs.specs.Draft.{Draft}

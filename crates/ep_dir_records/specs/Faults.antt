@@ -1,4 +1,4 @@
--- Working words of this crate's private contracts: what a refusal is made of.
+-- Working words of private contracts: what a refusal is made of.
 use Rattle.std.specs.Prelude.{ℕ, ◌≡◌, ◌⊎◌, List}
 use Rattle.ep_units.specs.Utf8.{units_of}
 use Rattle.ep_outside.specs.declared.keeper.KeepBad.{KeepBad}

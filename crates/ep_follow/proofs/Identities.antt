@@ -1,7 +1,7 @@
 -- What follows the identity, what follows through it, and where two followers meet.
 use Rattle.std.proofs.Common.{◌≡◌, ℕ, zero, suc, ◌+◌, Bool, true, false, cond, not, List, [], ◌∷◌, ◌++◌, length, refl, sym, ap, ◌∙◌, subst, arith, append-nil}
 use Rattle.ep_cs.specs.Doc.{Cell, Doc, text_of}
-use Rattle.ep_cs.specs.Edit.{Fate, Place, Edit, Step, Item, IsSettled, inserts, steps_from, edit_of, with_place, identity, items, apply, compose, painted, numbered}
+use Rattle.ep_cs.specs.Edit.{Fate, Place, Edit, Step, Item, IsSettled, inserts, steps_from, edit_of, with_place, identity, items, apply, compose, painted_item, numbered}
 use Rattle.ep_cs.specs.Edit.Fate.{Drop, Keep}
 use Rattle.ep_cs.specs.Edit.Step.{Pass}
 use Rattle.ep_cs.specs.Edit.Item.{New}
@@ -38,8 +38,8 @@ made_by e = given (steps_from e.places e.last)
 made_items : (e : Edit) → made_by e ≡ length (items e)
 made_items e =
     let is : List Item = numbered 0 (length e.places) in
-    sym (length-run painted New (steps_from e.places e.last) is (omega (arith, passed-steps_from e.places e.last, length-numbered 0 (length e.places))))
-    ∙ ap length (run-steps_from painted New e.places e.last is)
+    sym (length-run painted_item New (steps_from e.places e.last) is (omega (arith, passed-steps_from e.places e.last, length-numbered 0 (length e.places))))
+    ∙ ap length (run-steps_from painted_item New e.places e.last is)
 
 -- what follows of the identity
 pub identity_follows : (side : Bool) (a : Edit) → follow side a (identity (length a.places)) ≡ identity (made_by a)
@@ -111,6 +111,12 @@ through_identity side a b doc nb fa fb e =
     ∙ ap (λ (n : ℕ). stamped (follow side (identity n) b.edit) (text_of doc)) fb.length
     ∙ ap (λ (x : Edit). stamped x (text_of doc)) (follow_through side b.edit (settled b nb))
     ∙ (λ i. record { edit = b.edit; runs = sym fb.runs i })
+
+pub nothing_left : (side : Bool) (a b : Change) (doc : Doc) → Fits a doc → Fits b doc → is_identity b.edit ≡ true → follow side a.edit b.edit ≡ identity (length (items a.edit))
+nothing_left side a b doc fa fb e =
+    ap (λ (x : Edit). follow side a.edit x) (only_identity b.edit e ∙ ap identity (sym fb.length ∙ fa.length))
+    ∙ identity_follows side a.edit
+    ∙ ap identity (made_items a.edit)
 
 pub follows_nothing : (side : Bool) (a b : Change) (doc : Doc) → Fits a doc → Fits b doc → is_identity b.edit ≡ true → is_identity (follow side a.edit b.edit) ≡ true
 follows_nothing side a b doc fa fb e =

@@ -6,3 +6,4 @@ pub mod Fronts
 pub mod Identities
 pub mod Whole
 pub mod OnItsWay
+pub mod Shortcuts

@@ -1,4 +1,4 @@
--- Where a follower is: what is written, and what is left of the two changes.
+-- Working words of private contracts: where a follower is: what is written, and what is left of the two changes.
 use Rattle.std.specs.Prelude.{◌≡◌, ◌+◌, ◌<◌, ◌^◌, Bool, true, length, drop}
 use Rattle.ep_units.specs.Text.{Text}
 use Rattle.ep_cs.specs.Doc.{Doc, text_of}

@@ -1,4 +1,4 @@
--- Steps as gaps and places, and what follows of them.
+-- Working words of private contracts: steps as gaps and places, and what follows of them.
 use Rattle.std.specs.Prelude.{◌≡◌, ℕ, ◌≤◌, Bool, true, false, List, [], ◌∷◌, ◌++◌}
 use Rattle.ep_units.specs.Text.{Text, is_newline}
 use Rattle.ep_attr.specs.AttrMap.{AttrMap, rest}

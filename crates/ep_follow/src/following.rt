@@ -30,11 +30,8 @@ fn written(alloc: Global, a: &Change, b: &Change, first: First) -> Result<Builde
     Ok(out)
 }
 
-/// The second of two changes of one document, as a change of what the first makes of it: it keeps what the first
-/// inserts, inserts what the second inserts, and drops and dresses what is left. At a gap where both insert and nothing
-/// else decides, `first` says whose piece goes first. It fits the first's result of every document that both fit.
-/// Where the first's result and the second's insertions have 2^32 units or more together, memory is said to be wanting.
-pub fn follow(alloc: Global, a: &Change, b: &Change, first: First) -> Result<Change, NoMemory>
+/// What follows, written piece by piece.
+fn walked(alloc: Global, a: &Change, b: &Change, first: First) -> Result<Change, NoMemory>
     requires { (doc : Doc) × Fits a.now doc × Fits b.now doc }
     ensures exact { IfOk result (λ c. Follows first a.now b.now c) }
     ensures fits { IfOk result (λ c. (doc : Doc) → Fits a.now doc → Fits b.now doc → Fits c (apply a.now.edit doc)) }
@@ -42,4 +39,28 @@ pub fn follow(alloc: Global, a: &Change, b: &Change, first: First) -> Result<Cha
     ensures nothing { IfOk result (λ c. is_identity b.now.edit ≡ true → is_identity c.edit ≡ true) }
 {
     written(alloc, a, b, first)?.finish()
+}
+
+/// The second of two changes of one document, as a change of what the first makes of it: it keeps what the first
+/// inserts, inserts what the second inserts, and drops and paints what is left. At a gap where both insert and nothing
+/// else decides, `first` says whose piece goes first. It fits the first's result of every document that both fit.
+/// Where the first's result and the second's insertions have 2^32 units or more together, memory is said to be wanting,
+/// but where one of them alters nothing.
+pub fn follow(alloc: Global, a: &Change, b: &Change, first: First) -> Result<Change, NoMemory>
+    requires { (doc : Doc) × Fits a.now doc × Fits b.now doc }
+    ensures exact { IfOk result (λ c. Follows first a.now b.now c) }
+    ensures fits { IfOk result (λ c. (doc : Doc) → Fits a.now doc → Fits b.now doc → Fits c (apply a.now.edit doc)) }
+    ensures through { IfOk result (λ c. is_identity a.now.edit ≡ true → c ≡ b.now) }
+    ensures nothing { IfOk result (λ c. is_identity b.now.edit ≡ true → is_identity c.edit ≡ true) }
+{
+    // Their runs are normal.
+    let _first = a.ops();
+    let _second = b.ops();
+    if a.is_identity() {
+        return b.copy(alloc);
+    }
+    if b.is_identity() {
+        return Ok(Change::identity(alloc, a.new_len()));
+    }
+    walked(alloc, a, b, first)
 }

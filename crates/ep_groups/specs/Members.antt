@@ -1,4 +1,4 @@
--- Working words of this crate's private contracts: what one listed session decides.
+-- Working words of private contracts: what one listed session decides.
 use Rattle.std.specs.Prelude.{ℕ, ◌≡◌, Option, Some, None, Result, Ok}
 use Rattle.ep_units.specs.Text.{Text}
 use Rattle.ep_dir_records.specs.declared.values.SessionInfo.{SessionInfo}

@@ -108,18 +108,12 @@ fn mapped_group_puts(alloc: Global, mapper: &Units, group: &Units, n: u64) -> Re
     Ok(puts)
 }
 
-fn keep_of_group(infos: &mut Vec<SessionInfo>, group: &Units)
-    ensures { infos.new.items ≡ of_group group.now infos.old.items }
-{
-    infos.retain(|info| info.group == *group);
-}
-
 /// The sessions of a group.
 pub(crate) fn only_of_group(infos: Listed<SessionInfo>, group: &Units) -> Listed<SessionInfo>
     ensures { result ≡ of_group group.now infos }
 {
     let mut items = infos.items;
-    keep_of_group(&mut items, group);
+    items.retain(|info| info.group == *group);
     Listed { items }
 }
 
@@ -139,18 +133,12 @@ pub(crate) fn text_of(alloc: Global, pad: &PadId) -> Result<Units, NoMemory>
     Units::from_slice(alloc, pad.as_slice())
 }
 
-fn remove_pad(alloc: Global, puts: &mut Puts, pad: &PadId) -> Result<(), NoMemory>
-    ensures { OnOk result (puts.new ≡ puts.old ++ gone (key Kind.GroupPad pad.now) ∷ []) }
-{
-    let name = text_of(alloc, pad)?;
-    puts.remove(alloc, Kind::GroupPad, &name)
-}
-
 fn remove_pads(alloc: Global, puts: &mut Puts, pads: &[PadId]) -> Result<(), NoMemory>
     ensures { OnOk result (puts.new ≡ puts.old ++ map (λ p. gone (key Kind.GroupPad p)) pads.now) }
 {
     for pad in pads {
-        remove_pad(alloc, puts, pad)?;
+        let name = text_of(alloc, pad)?;
+        puts.remove(alloc, Kind::GroupPad, &name)?;
     }
     Ok(())
 }

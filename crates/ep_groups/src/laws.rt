@@ -11,12 +11,11 @@ ghost use Rattle.ep_groups.specs.History.{AllTell, Follows, IsLegal, Runs, Step}
 ghost use Rattle.ep_groups.specs.declared.entries.DirEntry.{DirEntry};
 ghost use Rattle.ep_groups.specs.declared.entries.DirReply.{DirReply};
 ghost use Rattle.ep_groups.specs.Ours.{AreOurs};
-ghost use Rattle.ep_groups.specs.Calls.{AreUnits, IsCall, IsDrawn, IsNotKept, IsPad, StaysOurs};
+ghost use Rattle.ep_groups.specs.Calls.{AreUnits, IsCall, IsDrawn, IsNotKept, StaysOurs};
 
-use crate::entries::{DirEntry, SessionAsked};
+use crate::entries::DirEntry;
 use ep_dir_records::Drawn;
 use ep_outside::Keeper;
-use ep_units::{PadId, Units};
 
 /// An empty map is the directory's own, and each call keeps it so and names no value of another form.
 pub fn ours_stays()
@@ -47,29 +46,10 @@ fn are_units(units: &[u16])
     let _len = units.len();
 }
 
-fn is_text(text: &Units)
-    ensures { AreUnits text.now }
-{
-    are_units(text.as_slice());
-}
-
-fn is_pad(pad: &PadId)
-    ensures { IsPad pad.now }
-{
-    are_units(pad.as_slice());
-}
-
 fn is_drawn(drawn: &Drawn)
     ensures { IsDrawn drawn.now.digits }
 {
     let _digits = drawn.digits.as_slice();
-}
-
-fn is_asked(asked: &SessionAsked)
-    ensures { IsCall (DirEntry.CreateSession asked.now) }
-{
-    let _valid_until = asked.valid_until;
-    is_drawn(&asked.drawn);
 }
 
 /// Each call that a program can make is one of which the laws speak.
@@ -82,12 +62,15 @@ pub fn is_call(entry: &DirEntry)
         | DirEntry::CreateAuthor(_, drawn)
         | DirEntry::AuthorFor(_, _, drawn) => is_drawn(drawn),
         DirEntry::AddGroupPad(group, name) => {
-            is_text(group);
-            is_text(name)
+            are_units(group.as_slice());
+            are_units(name.as_slice())
         }
-        DirEntry::CreateSession(asked) => is_asked(asked),
+        DirEntry::CreateSession(asked) => {
+            let _valid_until = asked.valid_until;
+            is_drawn(&asked.drawn)
+        }
         DirEntry::ReadOnly(pad, drawn) => {
-            is_pad(pad);
+            are_units(pad.as_slice());
             is_drawn(drawn)
         }
         DirEntry::Grant(asked) => is_drawn(&asked.drawn),

@@ -129,16 +129,10 @@ fn gone_puts(alloc: Global, id: &Units) -> Result<Puts, NoMemory>
     Ok(puts)
 }
 
-fn keep_of_author(infos: &mut Vec<SessionInfo>, author: &Units)
-    ensures { infos.new.items ≡ of_author author.now infos.old.items }
-{
-    infos.retain(|info| info.author == *author);
-}
-
 fn only_of_author(infos: Listed<SessionInfo>, author: &Units) -> Listed<SessionInfo>
     ensures { result ≡ of_author author.now infos }
 {
     let mut items = infos.items;
-    keep_of_author(&mut items, author);
+    items.retain(|info| info.author == *author);
     Listed { items }
 }

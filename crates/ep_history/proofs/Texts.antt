@@ -3,7 +3,7 @@ use Rattle.std.proofs.Common.{◌≡◌, ℕ, zero, suc, ◌+◌, ◌-◌, ◌�
 use Rattle.std.proofs.lemmas.Bool.Decides.{nat_tests}
 use Rattle.ep_units.specs.Text.{Text, is_high, is_low, is_paired, is_well_formed, is_newline}
 use Rattle.ep_attr.specs.AttrMap.{none}
-use Rattle.ep_cs.specs.Doc.{Cell, Doc, text_of, dressed}
+use Rattle.ep_cs.specs.Doc.{Cell, Doc, text_of, painted}
 use Rattle.ep_cs.specs.Edit.{Step, inserts, settle, with_place, Place, Edit, is_empty, are_settled, over, apply, identity}
 use Rattle.ep_cs.specs.Splice.{kept, dropped, splice}
 use Rattle.ep_cs.specs.Plain.{plain}
@@ -25,7 +25,7 @@ texts-stay e doc f t = text-apply e doc (fits_true e doc f) t
 
 -- ---- a step ends in a newline
 
-over-newline : (doc : Doc) → lacks_newline (over dressed (λ c. c) (identity (length doc)).places newline doc) ≡ false
+over-newline : (doc : Doc) → lacks_newline (over painted (λ c. c) (identity (length doc)).places newline doc) ≡ false
 over-newline [] = refl
 over-newline (c ∷ []) = refl
 over-newline (c ∷ (d ∷ doc)) = over-newline (d ∷ doc)

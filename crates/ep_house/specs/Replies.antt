@@ -1,4 +1,4 @@
--- What each call of the directory answers, where it is not refused.
+-- Working words of private contracts: what each call of the directory answers, where it is not refused.
 use Rattle.ep_groups.specs.declared.entries.DirEntry.{DirEntry}
 use Rattle.ep_groups.specs.declared.entries.DirEntry.TheVariants as entry
 

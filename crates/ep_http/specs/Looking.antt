@@ -1,4 +1,4 @@
--- What the steps that read a head say.
+-- Working words of private contracts: what the steps that read a head say.
 use Rattle.std.specs.Prelude.{ℕ, ◌⊎◌, ◌≤◌, List, length, Option, Result, Ok, Err}
 use Rattle.httparse.specs.Grammar.{RequestHead}
 use Rattle.httparse.specs.Spans.{IsRequestAt, IsRequestWithin}

@@ -1,4 +1,4 @@
--- What the steps say that take pieces of a source.
+-- Working words of private contracts: what the steps say that take pieces of a source.
 use Rattle.std.specs.Prelude.{ℕ, ◌≡◌, ◌+◌, ◌<◌, ◌≤◌, max, Bool, true, false, List, [], ◌++◌, length, Option, Result, Ok, Err}
 use Rattle.ep_outside.specs.Outside.{Gives, IsAtEnd}
 use Rattle.ep_http.specs.Taken.{HasFailed}

@@ -21,7 +21,7 @@ use Rattle.ep_cursor.proofs.Made.{passed-append, passed_times}
 use Rattle.ep_invert.specs.declared.bad.SpliceBad.{SpliceBad}
 use Rattle.ep_invert.specs.declared.bad.SpliceBad.TheVariants as bad
 use Rattle.ep_invert.specs.declared.stretch.Stretch.{Stretch}
-use Rattle.ep_invert.specs.Paint.{painted, paint}
+use Rattle.ep_invert.specs.Paint.{paint_steps, paint}
 use Rattle.ep_invert.specs.Refusal.{cut_bad, splice_bad, cause, refusal}
 use Rattle.ep_invert.specs.Stretch.{end_cut, IsFound, not_found}
 use Rattle.ep_invert.proofs.Cut.{splice_cut, paint_cut, paint_nothing}
@@ -55,8 +55,8 @@ pub length-paint : (n at count : ℕ) (m : AttrMap) → at + count ≤ n → len
 length-paint n at count m h =
     let k = n - (at + count) in
     let all : at + (count + k) ≡ n = omega arith in
-    length-settle [] (kept at ++ (painted count m ++ kept k)) ∙ passed-append (kept at) (painted count m ++ kept k)
-    ∙ (λ i. passed_times at (Keep none) i + (passed-append (painted count m) (kept k) ∙ (λ j. passed_times count (Keep m) j + passed_times k (Keep none) j)) i) ∙ all
+    length-settle [] (kept at ++ (paint_steps count m ++ kept k)) ∙ passed-append (kept at) (paint_steps count m ++ kept k)
+    ∙ (λ i. passed_times at (Keep none) i + (passed-append (paint_steps count m) (kept k) ∙ (λ j. passed_times count (Keep m) j + passed_times k (Keep none) j)) i) ∙ all
 
 -- places that cut no pair
 keeps_all : (at : ℕ) (ps : List Place) (us : Text) → first_cut at ps us ≡ None → keeps_pairs ps us ≡ true

@@ -15,7 +15,7 @@ use Rattle.ep_cs.proofs.Splices.{splice-nothing}
 use Rattle.ep_cs.specs.Fitting.{first_cut}
 use Rattle.ep_apply.specs.PairEnds.{ends_high}
 use Rattle.ep_apply.proofs.Ends.{step_end, keeps_end, drops_end}
-use Rattle.ep_invert.specs.Paint.{painted, paint}
+use Rattle.ep_invert.specs.Paint.{paint_steps, paint}
 use Rattle.ep_invert.specs.Stretch.{end_cut}
 
 -- a pair that ends with a stretch, behind which nothing goes on
@@ -101,7 +101,7 @@ splice_cut us (suc at) n piece h alters = elim alters as (λ _. first_cut 0 (spl
 
 -- the places from the stretch on, which is kept with a map
 painted_cut : (n r at : ℕ) (m : AttrMap) (us : Text) → length us ≡ n + r → is_none m ≡ false
-    → first_cut at (settle [] (painted n m ++ kept r)).places us ≡ else_at (at + n) (ends_high (take n us)) (else_at (at + n + r) (ends_high (drop n us)) None)
+    → first_cut at (settle [] (paint_steps n m ++ kept r)).places us ≡ else_at (at + n) (ends_high (take n us)) (else_at (at + n + r) (ends_high (drop n us)) None)
 painted_cut zero r at m us h e =
     let z : at + 0 + r ≡ at + r = omega arith in
     let f : length us ≡ r = omega (arith, h) in
@@ -115,7 +115,7 @@ painted_cut (suc n) r at m us h e =
     no_same zero = refl
     no_same (suc r) = e
 
-first_painted : (n r : ℕ) (m : AttrMap) → 1 ≤ n → is_none m ≡ false → goes_on (Keep none) (settle [] (painted n m ++ kept r)).places ≡ false
+first_painted : (n r : ℕ) (m : AttrMap) → 1 ≤ n → is_none m ≡ false → goes_on (Keep none) (settle [] (paint_steps n m ++ kept r)).places ≡ false
 first_painted zero r m h e = absurd (omega (arith, h))
 first_painted (suc n) r m h e = other m e
   where
@@ -142,19 +142,19 @@ paint_cut us (suc at) n m h some e =
     let f : length (drop (suc at) us) ≡ n + r = omega (arith, length-drop (suc at) us) in
     let y : suc at + n - suc at ≡ n = omega arith in
     let turned : drop n (drop (suc at) us) ≡ drop (suc at + n) us = drop-drop n (suc at) us in
-    keeps_cut at 0 none [] (painted n m ++ kept r) us (omega (arith, h)) (first_painted n r m some e)
-    ∙ ap (λ (k : ℕ). else_at k (ends_high (take (suc at) us)) (first_cut k (settle [] (painted n m ++ kept r)).places (drop (suc at) us))) a
+    keeps_cut at 0 none [] (paint_steps n m ++ kept r) us (omega (arith, h)) (first_painted n r m some e)
+    ∙ ap (λ (k : ℕ). else_at k (ends_high (take (suc at) us)) (first_cut k (settle [] (paint_steps n m ++ kept r)).places (drop (suc at) us))) a
     ∙ ap (else_at (suc at) (ends_high (take (suc at) us)))
     (painted_cut n r (suc at) m (drop (suc at) us) f e
     ∙ (λ i. else_at (suc at + n) (ends_high (take (sym y i) (drop (suc at) us))) (else_at (all i) (ends_high (turned i)) None)))
 
--- nothing is painted
+-- nothing is paint_steps
 pub paint_nothing : (n at count : ℕ) (m : AttrMap) → at + count ≤ n → (count ≡ 0) ⊎ (is_none m ≡ true) → paint n at count m ≡ identity n
 paint_nothing n at count m h why =
     let all : at + (count + (n - (at + count))) ≡ n = omega arith in
-    let same : painted count m ≡ kept count = elim why as (λ _. painted count m ≡ kept count) [
-      | inl z ↦ (λ i. painted (z i) m) ∙ sym (ap kept z)
-      | inr e ↦ ap (painted count) (exact_map m none e)
+    let same : paint_steps count m ≡ kept count = elim why as (λ _. paint_steps count m ≡ kept count) [
+      | inl z ↦ (λ i. paint_steps (z i) m) ∙ sym (ap kept z)
+      | inr e ↦ ap (paint_steps count) (exact_map m none e)
     ] in
     ap (λ (s : List Step). settle [] (kept at ++ (s ++ kept (n - (at + count))))) same
     ∙ ap (settle []) (ap (λ (s : List Step). kept at ++ s) (replicate-append-replicate count (n - (at + count)) (Pass (Keep none))) ∙ replicate-append-replicate at (count + (n - (at + count))) (Pass (Keep none)))

@@ -17,7 +17,7 @@ use Rattle.ep_cs.proofs.Plain.{length-text_of}
 use Rattle.ep_cs.proofs.Drafts.{dropped-append, inserted-append, dropped_times, kept_times, inserted_times, inserted_units}
 use Rattle.ep_cs.proofs.Documents.{AreBlocks, blocks}
 use Rattle.ep_cursor.proofs.Made.{passed-append, passed_times, passed_new}
-use Rattle.ep_invert.specs.Paint.{painted, paint}
+use Rattle.ep_invert.specs.Paint.{paint_steps, paint}
 use Rattle.ep_invert.specs.Writing.{GoesOn}
 use Rattle.ep_invert.proofs.Writes.{both_written, written_whole}
 
@@ -63,8 +63,8 @@ pub paint_pieces : (n at count : ℕ) (m : AttrMap) → AreDocuments (paint n at
 paint_pieces n at count m =
     let rest = kept (n - (at + count)) in
     let end : AreBlocks [] rest = only_times (n - (at + count)) (Keep none) [] refl in
-    let behind : AreBlocks [] (painted count m ++ rest) = blocks_times count (Keep m) [] rest refl end end in
-    blocks [] [] (kept at ++ (painted count m ++ rest)) refl (blocks_times at (Keep none) [] (painted count m ++ rest) refl behind behind)
+    let behind : AreBlocks [] (paint_steps count m ++ rest) = blocks_times count (Keep m) [] rest refl end end in
+    blocks [] [] (kept at ++ (paint_steps count m ++ rest)) refl (blocks_times at (Keep none) [] (paint_steps count m ++ rest) refl behind behind)
 
 -- ---- the stretch's text
 
@@ -88,12 +88,12 @@ pub record IsFront (us : Text) (at end : ℕ) (f : Fate) (d0 d1 d2 : Draft) (m :
   pub inside : end ≤ length us
   pub nothing : d0 ≡ blank (length us)
   pub bare : m ≡ none
-  pub front : GoesOn d0 d1 (painted at m) (take at us)
+  pub front : GoesOn d0 d1 (paint_steps at m) (take at us)
   pub stretch : GoesOn d1 d2 (times (end - at) f) (take (end - at) (drop at us))
 
 -- the front and the stretch, as they are passed in a document
 pub front_of : (doc : Doc) (at end n : ℕ) (f : Fate) (d0 d1 d2 : Draft) (m : AttrMap) (all rest : Text) → at ≤ end → end ≤ length doc → d0 ≡ blank n → n ≡ length doc → m ≡ none → all ≡ text_of doc → rest ≡ drop at all
-    → GoesOn d0 d1 (painted at m) (take at all) → GoesOn d1 d2 (times (end - at) f) (take (end - at) rest) → IsFront (text_of doc) at end f d0 d1 d2 m
+    → GoesOn d0 d1 (paint_steps at m) (take at all) → GoesOn d1 d2 (times (end - at) f) (take (end - at) rest) → IsFront (text_of doc) at end f d0 d1 d2 m
 front_of doc at end n f d0 d1 d2 m all rest h k e l b a r g w =
     let long : length (text_of doc) ≡ length doc = length-text_of doc in
     record {
@@ -101,23 +101,23 @@ front_of doc at end n f d0 d1 d2 m all rest h k e l b a r g w =
       inside = omega (arith, long, k);
       nothing = e ∙ ap blank (l ∙ sym long);
       bare = b;
-      front = subst (λ (us : Text). GoesOn d0 d1 (painted at m) (take at us)) a g;
+      front = subst (λ (us : Text). GoesOn d0 d1 (paint_steps at m) (take at us)) a g;
       stretch = subst (λ (us : Text). GoesOn d1 d2 (times (end - at) f) (take (end - at) us)) (r ∙ ap (drop at) a) w;
     }
 
 -- the front is kept: there is room for the stretch
-pub stretch_room : (doc : Doc) (at end n : ℕ) (d0 d1 : Draft) (m : AttrMap) (us : Text) → at ≤ end → end ≤ length doc → d0 ≡ blank n → n ≡ length doc → GoesOn d0 d1 (painted at m) us → passed d1.steps + (end - at) ≤ d1.old
+pub stretch_room : (doc : Doc) (at end n : ℕ) (d0 d1 : Draft) (m : AttrMap) (us : Text) → at ≤ end → end ≤ length doc → d0 ≡ blank n → n ≡ length doc → GoesOn d0 d1 (paint_steps at m) us → passed d1.steps + (end - at) ≤ d1.old
 stretch_room doc at end n d0 d1 m us h k e l g =
-    omega (arith, ap passed g.steps, passed-append d0.steps (painted at m), passed_times at (Keep m), ap (λ (d : Draft). passed d.steps) e, ap (λ (d : Draft). d.old) e, l, g.old, h, k)
+    omega (arith, ap passed g.steps, passed-append d0.steps (paint_steps at m), passed_times at (Keep m), ap (λ (d : Draft). passed d.steps) e, ap (λ (d : Draft). d.old) e, l, g.old, h, k)
 
 pub front_written : (us : Text) (at end : ℕ) (f : Fate) (d0 d1 d2 : Draft) (m : AttrMap) → IsFront us at end f d0 d1 d2 m
     → GoesOn (blank (length us)) d2 (kept at ++ times (end - at) f) (take at us ++ take (end - at) (drop at us))
 front_written us at end f d0 d1 d2 m w =
     let a = take at us in
     let b = take (end - at) (drop at us) in
-    let long : passed (painted at m) ≡ length a = passed_times at (Keep m) ∙ sym (front_long at us (omega (arith, w.order, w.inside))) in
-    let all : GoesOn d0 d2 (painted at m ++ times (end - at) f) (a ++ b) = both_written d0 d1 d2 (painted at m) (times (end - at) f) a b long w.front w.stretch in
-    subst (λ (x : Draft × List Step). GoesOn x.0 d2 x.1 (a ++ b)) (λ i. (w.nothing i, (painted at (w.bare i) ++ times (end - at) f))) all
+    let long : passed (paint_steps at m) ≡ length a = passed_times at (Keep m) ∙ sym (front_long at us (omega (arith, w.order, w.inside))) in
+    let all : GoesOn d0 d2 (paint_steps at m ++ times (end - at) f) (a ++ b) = both_written d0 d1 d2 (paint_steps at m) (times (end - at) f) a b long w.front w.stretch in
+    subst (λ (x : Draft × List Step). GoesOn x.0 d2 x.1 (a ++ b)) (λ i. (w.nothing i, (paint_steps at (w.bare i) ++ times (end - at) f))) all
 
 passed_front : (at n : ℕ) (f : Fate) → passed (kept at ++ times n f) ≡ at + n
 passed_front at n f = passed-append (kept at) (times n f) ∙ (λ i. passed_times at (Keep none) i + passed_times n f i)
@@ -162,15 +162,15 @@ splice_short us text at end d0 d1 d2 d3 m c w g short =
 -- the painting is written
 pub paint_written : (us : Text) (at end : ℕ) (d0 d1 d2 : Draft) (m c : AttrMap) → IsFront us at end (Keep c) d0 d1 d2 m → IsWritten us (paint (length us) at (end - at) c) d2
 paint_written us at end d0 d1 d2 m c w =
-    let s = kept at ++ painted (end - at) c in
+    let s = kept at ++ paint_steps (end - at) c in
     let a = take at us ++ take (end - at) (drop at us) in
-    let steps : s ++ rest_kept (length us - passed s) ≡ kept at ++ (painted (end - at) c ++ kept (length us - (at + (end - at)))) =
-    ap (λ (k : ℕ). s ++ rest_kept (length us - k)) (passed_front at (end - at) (Keep c)) ∙ append_assoc (kept at) (painted (end - at) c) _ in
+    let steps : s ++ rest_kept (length us - passed s) ≡ kept at ++ (paint_steps (end - at) c ++ kept (length us - (at + (end - at)))) =
+    ap (λ (k : ℕ). s ++ rest_kept (length us - k)) (passed_front at (end - at) (Keep c)) ∙ append_assoc (kept at) (paint_steps (end - at) c) _ in
     let is = written_whole d2 us a (drop end us) s (front_written us at end (Keep c) d0 d1 d2 m w) (cut_up at end us w.order) ∙ ap (λ (x : List Step). stamped (edit_of x) us) steps in
     record { change = is; edit = ap (λ (x : Change). x.edit) is }
 
 pub paint_short : (us : Text) (at end : ℕ) (d0 d1 d2 : Draft) (m c : AttrMap) → IsFront us at end (Keep c) d0 d1 d2 m → length us < 2 ^ 32 → new_length d2 < 2 ^ 32
 paint_short us at end d0 d1 d2 m c w short =
     let f = front_written us at end (Keep c) d0 d1 d2 m w in
-    let in_ : inserted_by d2.steps ≡ 0 = ap inserted_by f.steps ∙ inserted-append (kept at) (painted (end - at) c) ∙ (λ i. (kept_times at none).1 i + (kept_times (end - at) c).1 i) in
+    let in_ : inserted_by d2.steps ≡ 0 = ap inserted_by f.steps ∙ inserted-append (kept at) (paint_steps (end - at) c) ∙ (λ i. (kept_times at none).1 i + (kept_times (end - at) c).1 i) in
     omega (arith, in_, short, f.old)

@@ -21,7 +21,7 @@ use Rattle.ep_apply.proofs.Pieces.{next_rest, next_taken, taken_front, dropped_f
 use Rattle.ep_cursor.proofs.Lined.{lined_within}
 use Rattle.ep_cursor.proofs.Made.{passed-append, passed_new}
 use Rattle.ep_invert.specs.Inverse.{restoring}
-use Rattle.ep_invert.specs.Paint.{painted}
+use Rattle.ep_invert.specs.Paint.{paint_steps}
 use Rattle.ep_invert.specs.Undoing.{restored, undone, left_by, CanUndo}
 use Rattle.ep_invert.specs.Writing.{GoesOn}
 use Rattle.ep_invert.proofs.Restored.{restoring-none}
@@ -35,7 +35,7 @@ pub passed_restored : (m : AttrMap) (cs : List Cell) → passed (restored m cs) 
 passed_restored m [] = refl
 passed_restored m (c ∷ cs) = ap suc (passed_restored m cs)
 
-restored_cells : (a m : AttrMap) (us : Text) → restored m (cells a us) ≡ painted (length us) (restoring a m)
+restored_cells : (a m : AttrMap) (us : Text) → restored m (cells a us) ≡ paint_steps (length us) (restoring a m)
 restored_cells a m [] = refl
 restored_cells a m (u ∷ us) = ap (λ s. Pass (Keep (restoring a m)) ∷ s) (restored_cells a m us)
 
@@ -73,11 +73,11 @@ none_restored m units start d =
     }
 
 pub more_restored : (m b : AttrMap) (units left : ℕ) (start : List Cell) (d d' d'' : Draft) (rest rest' : List Cell) (a : AttrMap) (text : Text)
-    → AreRestored m units left start d d' rest → IsPiece units left start rest rest' a text → b ≡ restoring a m → GoesOn d' d'' (painted (length text) b) text
+    → AreRestored m units left start d d' rest → IsPiece units left start rest rest' a text → b ≡ restoring a m → GoesOn d' d'' (paint_steps (length text) b) text
     → AreRestored m units (left - length text) start d d'' rest'
 more_restored m b units left start d d' d'' rest rest' a text r p e g =
     let front = take (units - left) start in
-    let here : GoesOn d' d'' (restored m (cells a text)) text = subst (λ (s : List Step). GoesOn d' d'' s text) (ap (painted (length text)) e ∙ sym (restored_cells a m text)) g in
+    let here : GoesOn d' d'' (restored m (cells a text)) text = subst (λ (s : List Step). GoesOn d' d'' s text) (ap (paint_steps (length text)) e ∙ sym (restored_cells a m text)) g in
     let all : GoesOn d d'' (restored m front ++ restored m (cells a text)) (text_of front ++ text) = both_written d d' d'' (restored m front) (restored m (cells a text)) (text_of front) text (passed_restored m front ∙ sym (length-text_of front)) r.written here in
     let steps : restored m front ++ restored m (cells a text) ≡ restored m (front ++ cells a text) = sym (map-append (λ (c : Cell). Pass (Keep (restoring c.attrs m))) front (cells a text)) in
     let made : text_of front ++ text ≡ text_of (front ++ cells a text) = ap (λ us. text_of front ++ us) (sym (text_of-cells a text)) ∙ sym (map-append (λ (c : Cell). c.unit) front (cells a text)) in
@@ -159,7 +159,7 @@ lines_kept n lines text cs d h = omega (arith, lined_within lines (text_of (take
 pub lines_new : (n lines : ℕ) (text : Text) (cs : List Cell) (d : Draft) → CanUndo kind.Insert n lines text cs d → lines ≤ n
 lines_new n lines text cs d h = omega (arith, lined_within lines text h.2, h.1)
 
-restored_bare : (cs : List Cell) → restored none cs ≡ painted (length cs) none
+restored_bare : (cs : List Cell) → restored none cs ≡ paint_steps (length cs) none
 restored_bare [] = refl
 restored_bare (c ∷ cs) = ap₂ (λ (m : AttrMap) (s : List Step). Pass (Keep m) ∷ s) (restoring-none c.attrs) (restored_bare cs)
 
@@ -168,7 +168,7 @@ pub bare_kept : (n lines : ℕ) (m : AttrMap) (text : Text) (cs : List Cell) (d 
     → GoesOn d (keeping d n lines m) (restored m (take n cs)) (text_of (take n cs))
 bare_kept n lines m text cs d e h =
     let nothing : m ≡ none = exact_map m none e in
-    let steps : painted n none ≡ restored none (take n cs) = ap (λ (k : ℕ). painted k none) (sym (length-take-le n cs h.1)) ∙ sym (restored_bare (take n cs)) in
+    let steps : paint_steps n none ≡ restored none (take n cs) = ap (λ (k : ℕ). paint_steps k none) (sym (length-take-le n cs h.1)) ∙ sym (restored_bare (take n cs)) in
     subst (λ (m : AttrMap). GoesOn d (keeping d n lines m) (restored m (take n cs)) (text_of (take n cs))) (sym nothing)
     (subst (λ (s : List Step). GoesOn d (keeping d n lines none) s (text_of (take n cs))) steps (lined_kept d (text_of (take n cs)) n lines none (taken_text n cs h.1) h.0 h.2))
 

@@ -2,8 +2,8 @@
 use Rattle.std.proofs.Common.{◌≡◌, ℕ, zero, suc, ◌+◌, List, [], ◌∷◌, ◌++◌, map, length, take, drop, replicate, refl, sym, ap, ap₂, ◌∙◌, arith, append-nil}
 use Rattle.ep_attr.specs.AttrMap.{AttrMap, none, join}
 use Rattle.ep_attr.proofs.Maps.{none-join}
-use Rattle.ep_cs.specs.Doc.{Cell, Doc, dressed}
-use Rattle.ep_cs.specs.Edit.{Fate, Place, Edit, Step, Item, inserts, with_place, settle, edit_of, steps_from, steps_of, apply, items, painted, numbered, compose}
+use Rattle.ep_cs.specs.Doc.{Cell, Doc, painted}
+use Rattle.ep_cs.specs.Edit.{Fate, Place, Edit, Step, Item, inserts, with_place, settle, edit_of, steps_from, steps_of, apply, items, painted_item, numbered, compose}
 use Rattle.ep_cs.specs.Edit.Fate.{Drop, Keep}
 use Rattle.ep_cs.specs.Edit.Step.{Insert, Pass}
 use Rattle.ep_cs.specs.Edit.Item.{Kept, New}
@@ -108,7 +108,7 @@ given_undoing (Pass (Keep m) ∷ s) (c ∷ doc) n = ap suc (given_undoing s doc 
 
 -- ---- the laws
 
-undone : (s : List Step) (doc : Doc) → length doc ≡ passed s → HasNoEmpty doc → run dressed (λ c. c) (undoing s doc) (run dressed (λ c. c) s doc) ≡ doc
+undone : (s : List Step) (doc : Doc) → length doc ≡ passed s → HasNoEmpty doc → run painted (λ c. c) (undoing s doc) (run painted (λ c. c) s doc) ≡ doc
 undone [] [] n maps = refl
 undone [] (c ∷ doc) n maps = absurd (omega (arith, n))
 undone (Insert c ∷ s) doc n maps = undone s doc n maps
@@ -120,27 +120,27 @@ undone (Pass (Keep m) ∷ s) (c ∷ doc) n maps =
 -- an inverse gives the document back
 pub inverse_undoes : (e : Edit) (doc : Doc) → length doc ≡ length e.places → HasNoEmpty doc → apply (inverse e doc) (apply e doc) ≡ doc
 inverse_undoes e doc n maps =
-    over-settle dressed (λ c. c) [] (undoing (steps_of e) doc) (apply e doc)
-    ∙ ap (run dressed (λ c. c) (undoing (steps_of e) doc)) (sym (run-steps_from dressed (λ c. c) e.places e.last doc))
+    over-settle painted (λ c. c) [] (undoing (steps_of e) doc) (apply e doc)
+    ∙ ap (run painted (λ c. c) (undoing (steps_of e) doc)) (sym (run-steps_from painted (λ c. c) e.places e.last doc))
     ∙ undone (steps_of e) doc (n ∙ sym (passed-steps_from e.places e.last)) maps
 
 -- what steps and then what undoes them make of places
 run_items : (i : ℕ) (before : List Cell) (s : List Step) (doc : Doc) (xs : List Item)
-    → run painted New (undoing (inserts before ++ s) doc) (run painted New (inserts before ++ s) xs) ≡ run painted New (undoing s doc) (run painted New s xs)
+    → run painted_item New (undoing (inserts before ++ s) doc) (run painted_item New (inserts before ++ s) xs) ≡ run painted_item New (undoing s doc) (run painted_item New s xs)
 run_items i [] s doc xs = refl
 run_items i (c ∷ before) s doc xs = run_items i before s doc xs
 
 place_items : (i : ℕ) (ps : List Place) (last : List Cell) (doc : Doc) → length doc ≡ length ps
-    → run painted New (undoing (steps_from ps last) doc) (run painted New (steps_from ps last) (numbered i (length doc))) ≡ undone_items i ps doc
-place_items i [] last [] n = ap (λ (s : List Step). run painted New (undoing s []) (run painted New s [])) (sym (append-nil (inserts last))) ∙ run_items i last [] [] []
+    → run painted_item New (undoing (steps_from ps last) doc) (run painted_item New (steps_from ps last) (numbered i (length doc))) ≡ undone_items i ps doc
+place_items i [] last [] n = ap (λ (s : List Step). run painted_item New (undoing s []) (run painted_item New s [])) (sym (append-nil (inserts last))) ∙ run_items i last [] [] []
 place_items i [] last (c ∷ doc) n = absurd (omega (arith, n))
 place_items i (p ∷ ps) last [] n = absurd (omega (arith, n))
 place_items i (p ∷ ps) last (c ∷ doc) n =
     run_items i p.before (Pass p.fate ∷ steps_from ps last) (c ∷ doc) (Kept i none ∷ numbered (i + 1) (length doc))
     ∙ go p.fate (place_items (i + 1) ps last doc (omega (arith, n)))
   where
-    go : (f : Fate) → run painted New (undoing (steps_from ps last) doc) (run painted New (steps_from ps last) (numbered (i + 1) (length doc))) ≡ undone_items (i + 1) ps doc
-        → run painted New (undoing (Pass f ∷ steps_from ps last) (c ∷ doc)) (run painted New (Pass f ∷ steps_from ps last) (Kept i none ∷ numbered (i + 1) (length doc))) ≡ undone_item i f c ∷ undone_items (i + 1) ps doc
+    go : (f : Fate) → run painted_item New (undoing (steps_from ps last) doc) (run painted_item New (steps_from ps last) (numbered (i + 1) (length doc))) ≡ undone_items (i + 1) ps doc
+        → run painted_item New (undoing (Pass f ∷ steps_from ps last) (c ∷ doc)) (run painted_item New (Pass f ∷ steps_from ps last) (Kept i none ∷ numbered (i + 1) (length doc))) ≡ undone_item i f c ∷ undone_items (i + 1) ps doc
     go Drop e = ap (λ is. New c ∷ is) e
     go (Keep m) e = ap₂ (λ (m : AttrMap) (is : List Item). Kept i m ∷ is) (ap (λ (k : AttrMap). join k (restoring c.attrs m)) (none-join m)) e
 
@@ -148,12 +148,12 @@ place_items i (p ∷ ps) last (c ∷ doc) n =
 pub inverse_items : (e : Edit) (doc : Doc) → length doc ≡ length e.places → items (compose e (inverse e doc)) ≡ undone_items 0 e.places doc
 inverse_items e doc n =
     items-compose e (inverse e doc)
-    ∙ over-settle painted New [] (undoing (steps_of e) doc) (items e)
-    ∙ ap (run painted New (undoing (steps_of e) doc)) (sym (run-steps_from painted New e.places e.last (numbered 0 (length e.places))) ∙ ap (λ (k : ℕ). run painted New (steps_of e) (numbered 0 k)) (sym n))
+    ∙ over-settle painted_item New [] (undoing (steps_of e) doc) (items e)
+    ∙ ap (run painted_item New (undoing (steps_of e) doc)) (sym (run-steps_from painted_item New e.places e.last (numbered 0 (length e.places))) ∙ ap (λ (k : ℕ). run painted_item New (steps_of e) (numbered 0 k)) (sym n))
     ∙ place_items 0 e.places e.last doc n
 
 pub length-inverse : (e : Edit) (doc : Doc) → length doc ≡ length e.places → length (inverse e doc).places ≡ length (apply e doc)
 length-inverse e doc n =
     let all : length doc ≡ passed (steps_of e) = n ∙ sym (passed-steps_from e.places e.last) in
     length-settle [] (undoing (steps_of e) doc) ∙ passed_undoing (steps_of e) doc all
-    ∙ sym (length-run dressed (λ c. c) (steps_of e) doc (omega (arith, all))) ∙ ap length (run-steps_from dressed (λ c. c) e.places e.last doc)
+    ∙ sym (length-run painted (λ c. c) (steps_of e) doc (omega (arith, all))) ∙ ap length (run-steps_from painted (λ c. c) e.places e.last doc)

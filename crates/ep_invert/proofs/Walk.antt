@@ -5,7 +5,7 @@ use Rattle.std.proofs.lemmas.List.{take-map, drop-map}
 use Rattle.std.proofs.lemmas.Bool.Decides.{nat_tests}
 use Rattle.ep_units.specs.Text.{Text}
 use Rattle.ep_attr.specs.AttrMap.{AttrMap, none}
-use Rattle.ep_cs.specs.Doc.{Cell, Doc, text_of, dressed}
+use Rattle.ep_cs.specs.Doc.{Cell, Doc, text_of, painted}
 use Rattle.ep_cs.specs.Edit.{Edit, Step, apply, inserts, edit_of}
 use Rattle.ep_cs.specs.Edit.Fate.{Drop, Keep}
 use Rattle.ep_cs.specs.Edit.Step.{Insert, Pass}
@@ -62,7 +62,7 @@ pub record IsAsked (c : Change) (doc : Doc) : Type 0 where
 length_after : (c : Change) (doc : Doc) → IsAsked c doc → length (apply c.edit doc) ≡ given (steps_left (left_of c))
 length_after c doc a =
     let s = steps_left (left_of c) in
-    ap (λ (e : Edit). length (apply e doc)) (edit_left c a.normal) ∙ ap length (over-settle dressed (λ c. c) [] s doc) ∙ length-run dressed (λ c. c) s doc (omega (arith, passed_left c a.normal, a.fits.length))
+    ap (λ (e : Edit). length (apply e doc)) (edit_left c a.normal) ∙ ap length (over-settle painted (λ c. c) [] s doc) ∙ length-run painted (λ c. c) s doc (omega (arith, passed_left c a.normal, a.fits.length))
 
 pub starts : (c : Change) (doc : Doc) (out : Draft) (l : Left) (rest : List Cell) (n : ℕ) → IsAsked c doc → out ≡ blank n → n ≡ new_len c.edit → l ≡ left_of c → rest ≡ doc → IsInverting c doc out l rest
 starts c doc out l rest n a o k e r =

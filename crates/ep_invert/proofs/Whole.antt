@@ -5,7 +5,7 @@ use Rattle.std.proofs.lemmas.Bool.Decides.{nat_tests}
 use Rattle.ep_units.specs.Text.{Text, is_high, is_low, is_paired, is_well_formed}
 use Rattle.ep_attr.specs.AttrMap.{AttrMap, none, same_map}
 use Rattle.ep_attr.proofs.SameMap.{both_true, first_true, second_true, exact_map, same_map_itself}
-use Rattle.ep_cs.specs.Doc.{Cell, Doc, text_of, dressed, has_equal_halves, is_document}
+use Rattle.ep_cs.specs.Doc.{Cell, Doc, text_of, painted, has_equal_halves, is_document}
 use Rattle.ep_cs.specs.Edit.{Fate, Place, Edit, Step, is_empty, at_place, over, apply, inserts, steps_from, steps_of}
 use Rattle.ep_cs.specs.Edit.Fate.{Drop, Keep}
 use Rattle.ep_cs.specs.Edit.Step.{Insert, Pass}
@@ -173,7 +173,7 @@ kept_on c m (p ∷ ps) last (d ∷ doc) n on same = go (is_high c.unit) p.before
     go true [] (Keep k) on same = ap₂ (λ a b. same_map (restoring c.attrs m) (restoring a b)) (sym (exact_map c.attrs d.attrs same)) (sym (exact_map m k on)) ∙ same_map_itself (restoring c.attrs m)
 
 keep_places : (ps : List Place) (last : List Cell) (doc : Doc) → length doc ≡ length ps → ArePieces ps last → keeps_pairs ps (text_of doc) ≡ true → has_equal_halves doc ≡ true
-    → steps_keep (undoing (steps_from ps last) doc) (text_of (over dressed (λ c. c) ps last doc)) ≡ true
+    → steps_keep (undoing (steps_from ps last) doc) (text_of (over painted (λ c. c) ps last doc)) ≡ true
 keep_places [] last [] n pieces k e =
     (λ i. steps_keep ((ap (λ s. undoing s []) (sym (append-nil (inserts last))) ∙ undoing_inserts last [] []) i) ((ap text_of (same_cells last) ∙ sym (append-nil (text_of last))) i))
     ∙ ap (λ (j : ℕ). steps_keep (dropped j ++ []) (text_of last ++ [])) (sym (length-text_of last)) ∙ keep_dropped false (text_of last) [] [] pieces refl
@@ -181,14 +181,14 @@ keep_places [] last (c ∷ doc) n pieces k e = absurd (omega (arith, n))
 keep_places (p ∷ ps) last [] n pieces k e = absurd (omega (arith, n))
 keep_places (p ∷ ps) last (c ∷ doc) n pieces k e =
     let here = not (is_high c.unit) || goes_on p.fate ps in
-    let made = over dressed (λ c. c) ps last doc in
-    (λ i. steps_keep (undoing_inserts p.before (Pass p.fate ∷ steps_from ps last) (c ∷ doc) i) (text_of (same_cells p.before i ++ (at_place dressed (λ c. c) p.fate c ++ made))))
-    ∙ (λ i. steps_keep (dropped (sym (length-text_of p.before) i) ++ undoing (Pass p.fate ∷ steps_from ps last) (c ∷ doc)) (map-append (λ (c : Cell). c.unit) p.before (at_place dressed (λ c. c) p.fate c ++ made) i))
-    ∙ keep_dropped false (text_of p.before) (undoing (Pass p.fate ∷ steps_from ps last) (c ∷ doc)) (text_of (at_place dressed (λ c. c) p.fate c ++ made)) pieces.0
+    let made = over painted (λ c. c) ps last doc in
+    (λ i. steps_keep (undoing_inserts p.before (Pass p.fate ∷ steps_from ps last) (c ∷ doc) i) (text_of (same_cells p.before i ++ (at_place painted (λ c. c) p.fate c ++ made))))
+    ∙ (λ i. steps_keep (dropped (sym (length-text_of p.before) i) ++ undoing (Pass p.fate ∷ steps_from ps last) (c ∷ doc)) (map-append (λ (c : Cell). c.unit) p.before (at_place painted (λ c. c) p.fate c ++ made) i))
+    ∙ keep_dropped false (text_of p.before) (undoing (Pass p.fate ∷ steps_from ps last) (c ∷ doc)) (text_of (at_place painted (λ c. c) p.fate c ++ made)) pieces.0
     (go p.fate (first_true here _ k) (keep_places ps last doc (omega (arith, n)) pieces.1 (second_true here _ k) (halves_rest c doc e)))
   where
-    go : (f : Fate) → (not (is_high c.unit) || goes_on f ps) ≡ true → steps_keep (undoing (steps_from ps last) doc) (text_of (over dressed (λ c. c) ps last doc)) ≡ true
-        → steps_keep (undoing (Pass f ∷ steps_from ps last) (c ∷ doc)) (text_of (at_place dressed (λ c. c) f c ++ over dressed (λ c. c) ps last doc)) ≡ true
+    go : (f : Fate) → (not (is_high c.unit) || goes_on f ps) ≡ true → steps_keep (undoing (steps_from ps last) doc) (text_of (over painted (λ c. c) ps last doc)) ≡ true
+        → steps_keep (undoing (Pass f ∷ steps_from ps last) (c ∷ doc)) (text_of (at_place painted (λ c. c) f c ++ over painted (λ c. c) ps last doc)) ≡ true
     go Drop on again = again
     go (Keep m) on again = both_true _ _ (kept_on c m ps last doc (omega (arith, n)) on (halves_first c doc e)) again
 

@@ -22,21 +22,21 @@ use Rattle.ep_cursor.proofs.TrueDrafts.{true_keep, true_drop, true_insert, true_
 use Rattle.ep_apply.specs.Blocks.{Sees}
 use Rattle.ep_apply.specs.declared.seen.Seen.{Seen}
 use Rattle.ep_apply.proofs.Blocks.{lines-append, lines_within}
-use Rattle.ep_invert.specs.Paint.{painted}
+use Rattle.ep_invert.specs.Paint.{paint_steps}
 use Rattle.ep_invert.specs.Writing.{GoesOn}
 
 no_more : (d : Draft) → record { old = d.old; steps = d.steps ++ []; marks = d.marks ++ [] } ≡ d
 no_more d = λ i. record { old = d.old; steps = append-nil d.steps i; marks = append-nil d.marks i }
 
 -- a text with so many newlines, the last of them at its end, is kept
-pub lined_kept : (d : Draft) (text : Text) (n l : ℕ) (m : AttrMap) → length text ≡ n → 1 ≤ n → IsLined l (newlines text) → GoesOn d (keeping d n l m) (painted n m) text
+pub lined_kept : (d : Draft) (text : Text) (n l : ℕ) (m : AttrMap) → length text ≡ n → 1 ≤ n → IsLined l (newlines text) → GoesOn d (keeping d n l m) (paint_steps n m) text
 lined_kept d text n l m long some lined = record { old = refl; steps = refl; trues = λ us rest g t. true_keep d us text rest n l m t (record { is = g; long = long; some = some; lined = lined }) }
 
 pub lined_dropped : (d : Draft) (text : Text) (n l : ℕ) → length text ≡ n → 1 ≤ n → IsLined l (newlines text) → GoesOn d (dropping d n l) (dropped n) text
 lined_dropped d text n l long some lined = record { old = refl; steps = refl; trues = λ us rest g t. true_drop d us text rest n l t (record { is = g; long = long; some = some; lined = lined }) }
 
 -- a text that is one run is kept
-pub run_kept : (d : Draft) (text : Text) (l : ℕ) (m : AttrMap) → IsStretch text → l ≡ count_lines text → GoesOn d (keeping d (length text) l m) (painted (length text) m) text
+pub run_kept : (d : Draft) (text : Text) (l : ℕ) (m : AttrMap) → IsStretch text → l ≡ count_lines text → GoesOn d (keeping d (length text) l m) (paint_steps (length text) m) text
 run_kept d [] l m s e = record { old = refl; steps = refl; trues = λ us rest g t. subst (λ (x : Draft). IsTrueDraft x us) (sym (no_more d)) t }
 run_kept d (u ∷ text) l m s e =
     lined_kept d (u ∷ text) (length (u ∷ text)) l m refl (omega arith) (subst (λ (k : ℕ). IsLined k (newlines (u ∷ text))) (sym e) (lined_stretch (u ∷ text) (omega arith) s))
@@ -101,15 +101,15 @@ pub dropped_room : (d d' : Draft) (n l k : ℕ) → d' ≡ dropping d n l → pa
 dropped_room d d' n l k e h = omega (arith, ap (λ (d : Draft). passed d.steps) e, ap (λ (d : Draft). d.old) e, passed-append d.steps (times n Drop), passed_times n Drop, h)
 
 -- a text of which this is seen is kept: its whole lines and the rest
-pub seen_kept : (d d' d'' : Draft) (s : Seen) (us : Text) (m : AttrMap) → Sees s us → d' ≡ keeping d (s.units - s.tail) s.lines m → d'' ≡ keeping d' s.tail 0 m → GoesOn d d'' (painted s.units m) us
+pub seen_kept : (d d' d'' : Draft) (s : Seen) (us : Text) (m : AttrMap) → Sees s us → d' ≡ keeping d (s.units - s.tail) s.lines m → d'' ≡ keeping d' s.tail 0 m → GoesOn d d'' (paint_steps s.units m) us
 seen_kept d d' d'' s us m a e f =
     let k = s.units - s.tail in
     let front = take k us in
     let rear = drop k us in
     let p = parts_seen s us a in
-    let g : GoesOn d d' (painted (length front) m) front = subst (λ (x : Draft). GoesOn d x (painted (length front) m) front) ((λ i. keeping d (p.front i) s.lines m) ∙ sym e) (run_kept d front s.lines m (inr a.before) p.lines) in
-    let h : GoesOn d' d'' (painted (length rear) m) rear = subst (λ (x : Draft). GoesOn d' x (painted (length rear) m) rear) ((λ i. keeping d' (p.rear i) 0 m) ∙ sym f) (run_kept d' rear 0 m (inl a.behind) (sym a.behind)) in
-    subst (λ (n : ℕ). GoesOn d d'' (painted n m) us) (sym a.units) (parts_written (Keep m) d d' d'' us front rear (sym (take-append-drop k us)) g h)
+    let g : GoesOn d d' (paint_steps (length front) m) front = subst (λ (x : Draft). GoesOn d x (paint_steps (length front) m) front) ((λ i. keeping d (p.front i) s.lines m) ∙ sym e) (run_kept d front s.lines m (inr a.before) p.lines) in
+    let h : GoesOn d' d'' (paint_steps (length rear) m) rear = subst (λ (x : Draft). GoesOn d' x (paint_steps (length rear) m) rear) ((λ i. keeping d' (p.rear i) 0 m) ∙ sym f) (run_kept d' rear 0 m (inl a.behind) (sym a.behind)) in
+    subst (λ (n : ℕ). GoesOn d d'' (paint_steps n m) us) (sym a.units) (parts_written (Keep m) d d' d'' us front rear (sym (take-append-drop k us)) g h)
 
 -- it is dropped
 pub seen_dropped : (d d' d'' : Draft) (s : Seen) (us : Text) → Sees s us → d' ≡ dropping d (s.units - s.tail) s.lines → d'' ≡ dropping d' s.tail 0 → GoesOn d d'' (dropped s.units) us

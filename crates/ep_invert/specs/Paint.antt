@@ -7,9 +7,9 @@ use Rattle.ep_cs.specs.Edit.Step.{Pass}
 use Rattle.ep_cs.specs.Splice.{kept}
 
 -- so many places are kept with a map
-abbrev pub painted : ℕ → AttrMap → List Step
-painted n m = replicate n (Pass (Keep m))
+abbrev pub paint_steps : ℕ → AttrMap → List Step
+paint_steps n m = replicate n (Pass (Keep m))
 
 -- of n units, those from a place on, so many of them, are kept with the map, and the others as they are
 abbrev pub paint : ℕ → ℕ → ℕ → AttrMap → Edit
-paint n at count m = edit_of (kept at ++ (painted count m ++ kept (n - (at + count))))
+paint n at count m = edit_of (kept at ++ (paint_steps count m ++ kept (n - (at + count))))

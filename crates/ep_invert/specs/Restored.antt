@@ -1,4 +1,4 @@
--- The pairs of the map that restores a map.
+-- Working words of private contracts: the pairs of the map that restores a map.
 use Rattle.std.specs.Prelude.{List, [], ◌∷◌, Some}
 use Rattle.ep_attr.specs.AttrMap.{AttrMap, Pair, get}
 use Rattle.ep_attr.specs.Merged.{given}

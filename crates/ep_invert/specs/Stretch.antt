@@ -1,4 +1,4 @@
--- Stretches of a text, and the pairs that are cut at their ends.
+-- Working words of private contracts: stretches of a text, and the pairs that are cut at their ends.
 use Rattle.std.specs.Prelude.{◌≡◌, ℕ, ◌+◌, ◌-◌, ◌≤◌, ◌<◌, ◌^◌, Bool, nat_lt, cond, length, take, drop, if◌then◌else◌, Option, Some, None, Result, Ok, Err}
 use Rattle.ep_units.specs.Text.{Text}
 use Rattle.ep_cs.specs.Doc.{Doc, text_of}

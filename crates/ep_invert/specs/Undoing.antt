@@ -1,4 +1,4 @@
--- What undoes one run of a change.
+-- Working words of private contracts: what undoes one run of a change.
 use Rattle.std.specs.Prelude.{◌≡◌, ℕ, ◌+◌, ◌≤◌, ◌<◌, ◌^◌, List, [], map, length, take}
 use Rattle.ep_units.specs.Text.{Text}
 use Rattle.ep_attr.specs.AttrMap.{AttrMap}

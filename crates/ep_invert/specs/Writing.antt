@@ -1,4 +1,4 @@
--- A change that is written over a text that is known.
+-- Working words of private contracts: a change that is written over a text that is known.
 use Rattle.std.specs.Prelude.{◌≡◌, List, ◌++◌, drop}
 use Rattle.ep_units.specs.Text.{Text}
 use Rattle.ep_cs.specs.Edit.{Step}

@@ -3,7 +3,7 @@
 ghost use Rattle.std.specs.Prelude.{◌≡◌, ◌↔◌, ℕ, ◌+◌, ◌≤◌, ◌++◌, None, map, length, take, drop};
 ghost use Rattle.ep_units.specs.Text.{Text};
 ghost use Rattle.ep_attr.specs.AttrMap.{AttrMap, none, get, after};
-ghost use Rattle.ep_cs.specs.Doc.{Doc, dressed};
+ghost use Rattle.ep_cs.specs.Doc.{Doc, painted};
 ghost use Rattle.ep_cs.specs.Edit.{Edit, apply, compose, identity, items};
 ghost use Rattle.ep_apply.specs.Documents.{IsDocument};
 ghost use Rattle.ep_invert.specs.Paint.{paint};
@@ -25,9 +25,9 @@ pub fn restores_what_was_altered()
 {}
 
 /// A painting keeps each unit, and sets the attributes on those of a stretch.
-pub fn paint_dresses()
+pub fn paint_sets_attributes()
     ensures length { (n at count : ℕ) (m : AttrMap) → at + count ≤ n → length (paint n at count m).places ≡ n }
     ensures nothing { (n at : ℕ) (m : AttrMap) → at ≤ n → paint n at 0 m ≡ identity n }
     ensures document { (at count : ℕ) (m : AttrMap) (doc : Doc) → at + count ≤ length doc
-        → apply (paint (length doc) at count m) doc ≡ take at doc ++ (map (λ c. dressed c m) (take count (drop at doc)) ++ drop (at + count) doc) }
+        → apply (paint (length doc) at count m) doc ≡ take at doc ++ (map (λ c. painted c m) (take count (drop at doc)) ++ drop (at + count) doc) }
 {}

@@ -17,7 +17,7 @@ mod writing;
 pub use bad::SpliceBad;
 pub use inverting::invert;
 pub use laws::{
-    inverse_keeps_what_was_kept, inverse_undoes, paint_dresses, restores_what_was_altered,
+    inverse_keeps_what_was_kept, inverse_undoes, paint_sets_attributes, restores_what_was_altered,
 };
 pub use painting::paint;
 pub use splicing::splice;

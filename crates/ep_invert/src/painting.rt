@@ -32,7 +32,7 @@ fn painted(alloc: Global, doc: &Doc, stretch: Stretch, attrs: &AttrMap) -> Resul
 }
 
 /// Whether some unit is given some attribute.
-fn dresses(n: u32, attrs: &AttrMap) -> bool
+fn paints(n: u32, attrs: &AttrMap) -> bool
     ensures { MatchBool result ((1 ≤ n) × (is_none attrs.now ≡ false)) ((n ≡ 0) ⊎ (is_none attrs.now ≡ true)) }
 {
     n > 0 && !attrs.is_none()
@@ -52,6 +52,6 @@ pub fn paint(
     ensures fits { IfOk result (λ c. Fits c doc.now) }
     ensures refused { refusal result ≡ splice_bad (paint (length doc.now) at n attrs.now) (at + n) doc.now }
 {
-    let stretch = find(doc, at, n, dresses(n, attrs))?;
+    let stretch = find(doc, at, n, paints(n, attrs))?;
     Ok(painted(alloc, doc, stretch, attrs)?)
 }

@@ -9,7 +9,7 @@ ghost use Rattle.ep_cs.specs.Steps.{passed};
 ghost use Rattle.ep_cs.specs.Splice.{dropped};
 ghost use Rattle.ep_cs.specs.Draft.{inserted_by};
 ghost use Rattle.ep_apply.specs.Blocks.{Sees};
-ghost use Rattle.ep_invert.specs.Paint.{painted};
+ghost use Rattle.ep_invert.specs.Paint.{paint_steps};
 ghost use Rattle.ep_invert.specs.Writing.{GoesOn};
 
 use ep_apply::{Passing, Seen};
@@ -21,7 +21,7 @@ use ep_units::NoMemory;
 fn keep_seen(out: &mut Builder, seen: Seen, attrs: &AttrMap) -> Result<(), NoMemory>
     requires inside { passed out.old.steps + seen.units ≤ out.old.old }
     requires lined { seen.lines + seen.tail ≤ seen.units }
-    ensures { OnOk result ((us : Text) → Sees seen us → GoesOn out.old out.new (painted seen.units attrs.now) us) }
+    ensures { OnOk result ((us : Text) → Sees seen us → GoesOn out.old out.new (paint_steps seen.units attrs.now) us) }
 {
     out.keep(seen.units - seen.tail, seen.lines, attrs)?;
     out.keep(seen.tail, 0, attrs)
@@ -31,7 +31,7 @@ fn keep_seen(out: &mut Builder, seen: Seen, attrs: &AttrMap) -> Result<(), NoMem
 pub fn keep_text(out: &mut Builder, text: &[u16], attrs: &AttrMap) -> Result<(), NoMemory>
     requires inside { passed out.old.steps + length text.now ≤ out.old.old }
     requires short { out.old.old < 2 ^ 32 }
-    ensures { OnOk result (GoesOn out.old out.new (painted (length text.now) attrs.now) text.now) }
+    ensures { OnOk result (GoesOn out.old out.new (paint_steps (length text.now) attrs.now) text.now) }
 {
     keep_seen(out, Seen::of(text), attrs)
 }
@@ -45,7 +45,7 @@ pub fn keep_next(
 ) -> Result<(), NoMemory>
     requires left { units ≤ length rest.old }
     requires inside { passed out.old.steps + units ≤ out.old.old }
-    ensures written { OnOk result (GoesOn out.old out.new (painted units attrs.now) (take units rest.old)) }
+    ensures written { OnOk result (GoesOn out.old out.new (paint_steps units attrs.now) (take units rest.old)) }
     ensures rest { OnOk result (rest.new ≡ drop units rest.old) }
 {
     let seen = rest.pass(units);

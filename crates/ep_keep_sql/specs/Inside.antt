@@ -1,4 +1,4 @@
--- What a statement of a transaction does, whether it is refused or not.
+-- Working words of private contracts: what a statement of a transaction does, whether it is refused or not.
 use Rattle.std.specs.Prelude.{◌≡◌, ◌≤◌, ℕ, Bool, IsTrue, List, [], ◌∷◌, None, Some, OnOk, Ok, Err, Result, is_ok}
 use Rattle.sqlite.specs.View.{doubt}
 use Rattle.sqlite.specs.State.{State, HasCleanDisk, KeepsCommit}

@@ -1,8 +1,13 @@
 -- Events that were played.
-use Rattle.std.proofs.Common.{◌≡◌, ℕ, Bool, true, false, not, Option, Some, refl, sym, ap, ◌∙◌, subst}
+use Rattle.std.proofs.Common.{◌≡◌, ℕ, Bool, true, false, not, List, Option, Some, None, refl, sym, ap, ◌∙◌, subst}
 use Rattle.std.specs.Prelude.{Ok}
 use Rattle.ep_outside.specs.Disk.{Contents}
+use Rattle.ep_history.specs.Machine.{journal_fault}
+use Rattle.ep_history.specs.Pad.{PadState}
+use Rattle.ep_history.specs.declared.pad_bad.PadBad.{PadBad}
 use Rattle.ep_history.specs.declared.pad_bad.PadBad.TheVariants.{JournalFull}
+use Rattle.ep_history.specs.declared.record.Record.{Record}
+use Rattle.ep_pad_file.specs.Standing.{size}
 use Rattle.ep_history.proofs.Lists.{none_some, some_same}
 use Rattle.ep_schedule.specs.World.{WorldState, Event as AnEvent}
 use Rattle.ep_schedule.specs.Kepts.{Kepts}
@@ -11,30 +16,43 @@ use Rattle.ep_event.specs.declared.event.Event.TheVariants.{Create, SetText, Del
 use Rattle.ep_event.specs.declared.shown.Shown.{Shown}
 use Rattle.ep_world.specs.Events.{event_at, happened, kept_happened}
 use Rattle.ep_world.specs.Shows.{shows}
-use Rattle.ep_world.specs.Standing.{Comes, IsPlayed, IsRun, no_room}
+use Rattle.ep_world.specs.Journal.{full_by, journal_after, machine_of, no_room, record_at, shows_full}
+use Rattle.ep_world.specs.Standing.{Comes, IsPlayed, IsRun}
 use Rattle.ep_world.specs.Standing.IsPlayed.{IsEvent, HasNoRoom}
 use Rattle.ep_world.specs.declared.world.World.{World}
+use Rattle.ep_world.proofs.Calls.{journal-full}
 use Rattle.ep_world.proofs.Leading.{more}
 use Rattle.ep_make.specs.Made.{IsOf, is_overfull, is_stop}
 use Rattle.ep_make.specs.Round.{after, does, is_nothing}
 
 -- a journal without room is shown as one
-overfull : (e : Event) (bytes : ℕ) (s : Shown) → no_room e (JournalFull bytes) ≡ Some s → is_overfull s ≡ true
-overfull (Create text) bytes s h = sym (ap is_overfull (some_same h))
-overfull (SetText text) bytes s h = sym (ap is_overfull (some_same h))
-overfull Delete bytes s h = sym (ap is_overfull (some_same h))
-overfull (Login n) bytes s h = sym (ap is_overfull (some_same h))
-overfull (Guest n read_only) bytes s h = sym (ap is_overfull (some_same h))
-overfull (Edit n e) bytes s h = none_some h
-overfull (Submit n) bytes s h = none_some h
-overfull (Inject n base change) bytes s h = none_some h
-overfull (Take n) bytes s h = sym (ap is_overfull (some_same h))
-overfull (Late n) bytes s h = none_some h
-overfull (Push n) bytes s h = none_some h
-overfull (Hear n) bytes s h = none_some h
-overfull (Lose n) bytes s h = none_some h
-overfull (Resume n) bytes s h = sym (ap is_overfull (some_same h))
-overfull (Stop at) bytes s h = none_some h
+overfull : (e : Event) (b : PadBad) (s : Shown) → (bytes : ℕ) × (b ≡ JournalFull bytes) → no_room e b ≡ Some s → is_overfull s ≡ true
+overfull e b s f h = go e f.0 (sym (ap (no_room e) f.1) ∙ h)
+  where
+    go : (e : Event) (bytes : ℕ) → no_room e (JournalFull bytes) ≡ Some s → is_overfull s ≡ true
+    go (Create text) bytes h = sym (ap is_overfull (some_same h))
+    go (SetText text) bytes h = sym (ap is_overfull (some_same h))
+    go Delete bytes h = sym (ap is_overfull (some_same h))
+    go (Login n) bytes h = sym (ap is_overfull (some_same h))
+    go (Guest n read_only) bytes h = sym (ap is_overfull (some_same h))
+    go (Edit n e) bytes h = none_some h
+    go (Submit n) bytes h = none_some h
+    go (Inject n base change) bytes h = none_some h
+    go (Take n) bytes h = sym (ap is_overfull (some_same h))
+    go (Late n) bytes h = none_some h
+    go (Push n) bytes h = none_some h
+    go (Hear n) bytes h = none_some h
+    go (Lose n) bytes h = none_some h
+    go (Resume n) bytes h = sym (ap is_overfull (some_same h))
+    go (Stop at) bytes h = none_some h
+
+overfull-by : (rs : List Record) (pad : PadState) (e : Event) (s : Shown) (o : Option Record) → shows_full e (full_by rs pad o) ≡ Some s → is_overfull s ≡ true
+overfull-by rs pad e s None h = none_some h
+overfull-by rs pad e s (Some r) h = go (journal_fault size (machine_of rs pad) r) refl h
+  where
+    go : (f : Option PadBad) → journal_fault size (machine_of rs pad) r ≡ f → shows_full e f ≡ Some s → is_overfull s ≡ true
+    go None q h = none_some h
+    go (Some b) q h = overfull e b s (journal-full (machine_of rs pad) r b q) h
 
 -- the choice is that of a stop alone
 same_event : (w : WorldState) (kept : Bool) (e : Event) → is_stop e ≡ false → event_at w 0 kept e ≡ event_at w 0 false e
@@ -71,18 +89,18 @@ same_shown w kept (Lose n) h = refl
 same_shown w kept (Resume n) h = refl
 same_shown w kept (Stop at) h = absurd (let e : true ≡ false = h in cc)
 
-module _ {D : Type 0} (told : D → Option Contents) (failures : D → ℕ) where
-  played : (w : WorldState) (ks : Kepts) (e : Event) (new : World D) (s : Shown) (b : Bool) → b ≡ is_nothing s → IsRun w ks → is_stop e ≡ false → is_overfull s ≡ false
-      → IsPlayed told failures w ks 0 e new s → (not b ≡ does w e) × IsOf told failures new (after w e)
+module _ {D : Type 0} (told : D → Option Contents) (failures : D → ℕ) (stops_alone : D → Bool) where
+  played : (alone : Bool) (rs : List Record) (w : WorldState) (ks : Kepts) (e : Event) (new : World D) (s : Shown) (b : Bool) → b ≡ is_nothing s → IsRun w ks → is_stop e ≡ false → is_overfull s ≡ false
+      → IsPlayed told failures stops_alone alone rs w ks 0 e new s → (not b ≡ does w e) × IsOf told failures stops_alone new (after w e)
   unfolding after does
-  played w ks e new s b is run plain f (IsEvent kept shown stands) = (
+  played alone rs w ks e new s b is run plain f (IsEvent kept shown room d stands) = (
     ap not (is ∙ ap is_nothing (shown ∙ same_shown w kept e plain)),
-    subst (λ (o : Option AnEvent). IsOf told failures new (happened w o)) (same_event w kept e plain)
-        (record { kepts = kept_happened w ks (event_at w 0 kept e); run = more w ks (event_at w 0 kept e) run; stands = stands }),
+    subst (λ (o : Option AnEvent). IsOf told failures stops_alone new (happened w o)) (same_event w kept e plain)
+        (record { kepts = kept_happened w ks (event_at w 0 kept e); alone = alone; journal = journal_after rs w 0 kept e; run = more w ks (event_at w 0 kept e) run; stands = stands }),
   )
-  played w ks e new s b is run plain f (HasNoRoom bytes room stands) = absurd (let h : true ≡ false = sym (overfull e bytes s room) ∙ f in cc)
+  played alone rs w ks e new s b is run plain f (HasNoRoom full stands) = absurd (let h : true ≡ false = sym (overfull-by rs w.pad e s (record_at w 0 e) full) ∙ f in cc)
 
   -- what an event came to that is shown, and no stop
-  pub plays : (w : WorldState) (old new : World D) (e : Event) (s : Shown) (b : Bool) → b ≡ is_nothing s → is_stop e ≡ false → is_overfull s ≡ false → (at : IsOf told failures old w)
-      → Comes told failures w at.kepts 0 e new (Ok s) → (not b ≡ does w e) × IsOf told failures new (after w e)
-  plays w old new e s b is plain f at h = played w at.kepts e new s b is at.run plain f h.2
+  pub plays : (w : WorldState) (old new : World D) (e : Event) (s : Shown) (b : Bool) → b ≡ is_nothing s → is_stop e ≡ false → is_overfull s ≡ false → (at : IsOf told failures stops_alone old w)
+      → Comes told failures stops_alone at.alone at.journal w at.kepts 0 e new (Ok s) → (not b ≡ does w e) × IsOf told failures stops_alone new (after w e)
+  plays w old new e s b is plain f at h = played at.alone at.journal w at.kepts e new s b is at.run plain f h.2

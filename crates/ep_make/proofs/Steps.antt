@@ -37,41 +37,41 @@ round_from clients x n y z end e w v is from drawn last rests =
 
 -- ---- of a world in code
 
-module _ {D : Type 0} (told : D → Option Contents) (failures : D → ℕ) where
-  pub drain_begins : (n : Name) (world : World D) → Leads told failures (DrainsFrom n) world world
+module _ {D : Type 0} (told : D → Option Contents) (failures : D → ℕ) (stops_alone : D → Bool) where
+  pub drain_begins : (n : Name) (world : World D) → Leads told failures stops_alone (DrainsFrom n) world world
   drain_begins n world = λ w at. (w, (λ v d. d), at)
 
-  pub drain_goes : (n : Name) (first old push new : World D) (b : Bool) → b ≡ true → Leads told failures (DrainsFrom n) first old
-      → ((w : WorldState) → IsOf told failures old w → (b ≡ does w (Push n)) × IsOf told failures push (after w (Push n)))
-      → Moves told failures (λ w. after w (Hear n)) push new → Leads told failures (DrainsFrom n) first new
+  pub drain_goes : (n : Name) (first old push new : World D) (b : Bool) → b ≡ true → Leads told failures stops_alone (DrainsFrom n) first old
+      → ((w : WorldState) → IsOf told failures stops_alone old w → (b ≡ does w (Push n)) × IsOf told failures stops_alone push (after w (Push n)))
+      → Moves told failures stops_alone (λ w. after w (Hear n)) push new → Leads told failures stops_alone (DrainsFrom n) first new
   drain_goes n first old push new b is gone pushed heard = λ w at.
       let g = gone w at in
       let p = pushed g.0 g.2 in
       (after (after g.0 (Push n)) (Hear n), (λ v d. g.1 v (told_more n g.0 (sym p.0 ∙ is) v d)), heard (after g.0 (Push n)) p.1)
 
-  pub drain_ends : (n : Name) (first old new : World D) (b : Bool) → b ≡ false → Leads told failures (DrainsFrom n) first old
-      → ((w : WorldState) → IsOf told failures old w → (b ≡ does w (Push n)) × IsOf told failures new (after w (Push n)))
-      → Leads told failures (IsDrained n) first new
+  pub drain_ends : (n : Name) (first old new : World D) (b : Bool) → b ≡ false → Leads told failures stops_alone (DrainsFrom n) first old
+      → ((w : WorldState) → IsOf told failures stops_alone old w → (b ≡ does w (Push n)) × IsOf told failures stops_alone new (after w (Push n)))
+      → Leads told failures stops_alone (IsDrained n) first new
   drain_ends n first old new b is gone pushed = λ w at.
       let g = gone w at in
       let p = pushed g.0 g.2 in
       (after g.0 (Push n), g.1 (after g.0 (Push n)) (0, (sym p.0 ∙ is, refl)), p.1)
 
   pub sends_as : (n : Name) (w : WorldState) (new : World D) (b : Bool) → b ≡ does w (Submit n)
-      → IsOf told failures new (if b then after (after w (Submit n)) (Take n) else after w (Submit n)) → IsOf told failures new (sent w n)
-  sends_as n w new b e h = subst (λ t. IsOf told failures new (if t then after (after w (Submit n)) (Take n) else after w (Submit n))) e h
+      → IsOf told failures stops_alone new (if b then after (after w (Submit n)) (Take n) else after w (Submit n)) → IsOf told failures stops_alone new (sent w n)
+  sends_as n w new b e h = subst (λ t. IsOf told failures stops_alone new (if t then after (after w (Submit n)) (Take n) else after w (Submit n))) e h
 
-  pub rest_drained : (k : ℕ) (n : Name) (old new : World D) → k ≡ 0 → Leads told failures (IsDrained n) old new → Leads told failures (Rests k n) old new
+  pub rest_drained : (k : ℕ) (n : Name) (old new : World D) → k ≡ 0 → Leads told failures stops_alone (IsDrained n) old new → Leads told failures stops_alone (Rests k n) old new
   rest_drained k n old new is h = λ w at. let d = h w at in (d.0, rests_as 0 k n w d.0 (sym is) d.1, d.2)
 
-  pub rest_back : (k : ℕ) (n : Name) (old new : World D) → k ≡ 1 → Moves told failures (λ w. back w n) old new → Leads told failures (Rests k n) old new
+  pub rest_back : (k : ℕ) (n : Name) (old new : World D) → k ≡ 1 → Moves told failures stops_alone (λ w. back w n) old new → Leads told failures stops_alone (Rests k n) old new
   rest_back k n old new is h = λ w at. (back w n, rests_as 1 k n w (back w n) (sym is) refl, h w at)
 
-  pub settles_begin : (n : Name) (world : World D) → Leads told failures (Settles 0 n) world world
+  pub settles_begin : (n : Name) (world : World D) → Leads told failures stops_alone (Settles 0 n) world world
   settles_begin n world = λ w at. (w, refl, at)
 
-  pub settles_go : (n : Name) (first old drain new : World D) (k : ℕ) → Leads told failures (Settles k n) first old → Leads told failures (IsDrained n) old drain
-      → Moves told failures (λ w. sent w n) drain new → Leads told failures (Settles (k + 1) n) first new
+  pub settles_go : (n : Name) (first old drain new : World D) (k : ℕ) → Leads told failures stops_alone (Settles k n) first old → Leads told failures stops_alone (IsDrained n) old drain
+      → Moves told failures stops_alone (λ w. sent w n) drain new → Leads told failures stops_alone (Settles (k + 1) n) first new
   settles_go n first old drain new k gone drained sending = λ w at.
       let g = gone w at in
       let d = drained g.0 g.2 in
@@ -79,11 +79,11 @@ module _ {D : Type 0} (told : D → Option Contents) (failures : D → ℕ) wher
 
   -- ---- of each client
 
-  pub each_begins : (Step : Name → WorldState → WorldState → Type 0) (world : World D) → Leads told failures (Each Step 0) world world
+  pub each_begins : (Step : Name → WorldState → WorldState → Type 0) (world : World D) → Leads told failures stops_alone (Each Step 0) world world
   each_begins Step world = λ w at. (w, refl, at)
 
   pub each_goes : (Step : Name → WorldState → WorldState → Type 0) (first old new : World D) (k : ℕ) (n : Name) → n ≡ name_of (k + 1)
-      → Leads told failures (Each Step k) first old → Leads told failures (Step n) old new → Leads told failures (Each Step (k + 1)) first new
+      → Leads told failures stops_alone (Each Step k) first old → Leads told failures stops_alone (Step n) old new → Leads told failures stops_alone (Each Step (k + 1)) first new
   each_goes Step first old new k n is gone step = λ w at.
       let g = gone w at in
       let s = step g.0 g.2 in
@@ -91,15 +91,15 @@ module _ {D : Type 0} (told : D → Option Contents) (failures : D → ℕ) wher
 
   -- ---- of rounds
 
-  pub rounds_begin : (clients x : ℕ) (world : World D) → Leads told failures (λ w v. Rounds 0 clients x w x v) world world
+  pub rounds_begin : (clients x : ℕ) (world : World D) → Leads told failures stops_alone (λ w v. Rounds 0 clients x w x v) world world
   rounds_begin clients x world = λ w at. (w, (refl, refl), at)
 
-  pub rounds_go : (clients k x y z : ℕ) (first old new : World D) → Leads told failures (λ w v. Rounds k clients x w y v) first old
-      → Leads told failures (λ w v. Round clients y w z v) old new → Leads told failures (λ w v. Rounds (k + 1) clients x w z v) first new
+  pub rounds_go : (clients k x y z : ℕ) (first old new : World D) → Leads told failures stops_alone (λ w v. Rounds k clients x w y v) first old
+      → Leads told failures stops_alone (λ w v. Round clients y w z v) old new → Leads told failures stops_alone (λ w v. Rounds (k + 1) clients x w z v) first new
   rounds_go clients k x y z first old new gone round = λ w at.
       let g = gone w at in
       let r = round g.0 g.2 in
       (r.0, subst (λ j. Rounds j clients x w z r.0) (sym (add-one k)) (y, g.0, g.1, r.1), r.2)
 
-  pub leads_as : (Step : ℕ → WorldState → WorldState → Type 0) (old new : World D) (j k : ℕ) → j ≡ k → Leads told failures (Step j) old new → Leads told failures (Step k) old new
-  leads_as Step old new j k e l = subst (λ i. Leads told failures (Step i) old new) e l
+  pub leads_as : (Step : ℕ → WorldState → WorldState → Type 0) (old new : World D) (j k : ℕ) → j ≡ k → Leads told failures stops_alone (Step j) old new → Leads told failures stops_alone (Step k) old new
+  leads_as Step old new j k e l = subst (λ i. Leads told failures stops_alone (Step i) old new) e l

@@ -10,6 +10,7 @@ use Rattle.ep_event.specs.declared.shown.Shown.{Shown}
 use Rattle.ep_event.specs.declared.shown.Shown.TheVariants.{Refused}
 use Rattle.ep_event.specs.declared.shown.Reason.TheVariants as why
 use Rattle.ep_history.specs.declared.pad_bad.PadBad.TheVariants as bad
+use Rattle.ep_history.specs.declared.record.Record.{Record}
 use Rattle.ep_world.specs.Leading.{IsScheduled}
 use Rattle.ep_world.specs.Standing.{IsRun, StandsFor}
 use Rattle.ep_world.specs.declared.world.World.{World}
@@ -43,12 +44,14 @@ abbrev pub is_overfull : Shown → Bool
 is_overfull (Refused verb name (why.Pad (bad.JournalFull bytes))) = true
 is_overfull shown = false
 
-module _ {D : Type 0} (told_by : D → Option Contents) (failures : D → ℕ) where
+module _ {D : Type 0} (told_by : D → Option Contents) (failures : D → ℕ) (stops_alone : D → Bool) where
   -- the world in code stands for this one of the rules, to which some events lead
   pub record IsOf (world : World D) (w : WorldState) : Type 0 where
     pub kepts : Kepts
+    pub alone : Bool
+    pub journal : List Record
     pub run : IsRun w kepts
-    pub stands : StandsFor told_by failures world w kepts
+    pub stands : StandsFor told_by failures stops_alone alone journal world w kepts
 
   -- from each world for which it stood it came to the one behind the event; and the answer is whether that found something to do
   abbrev pub Plays : Event → World D → Result Bool Stopped → World D → Type 0

@@ -27,7 +27,7 @@ fn shows(client: &Client, doc: &Doc) -> bool
 
 /// Whether the client of a name sees this document.
 fn sees<D: Crash>(world: &World<D>, name: &Units, doc: &Doc) -> bool
-    ensures { (w : WorldState) → IsOf D.told D.failures world.now w → result ≡ sees w name.now doc.now }
+    ensures { (w : WorldState) → IsOf D.told D.failures D.stops_alone world.now w → result ≡ sees w name.now doc.now }
 {
     let Some(client) = world.view(name) else {
         return false;
@@ -42,7 +42,7 @@ fn count_agreeing<D: Crash>(
     clients: u32,
     doc: &Doc,
 ) -> Result<u32, Stopped>
-    ensures { (w : WorldState) → IsOf D.told D.failures world.now w → IfOk result (λ n. n ≡ seen_by w doc.now clients) }
+    ensures { (w : WorldState) → IsOf D.told D.failures D.stops_alone world.now w → IfOk result (λ n. n ≡ seen_by w doc.now clients) }
 {
     let mut agreeing = 0;
     for k in 0..clients {
@@ -86,7 +86,7 @@ pub(crate) fn five_lines<D: Crash>(
     clients: u32,
     edits: u32,
 ) -> Result<String, Stopped>
-    ensures { (w : WorldState) → IsOf D.told D.failures world.old w → IfOk result (λ text. string_bytes text ≡ five_lines clients edits w) }
+    ensures { (w : WorldState) → IsOf D.told D.failures D.stops_alone world.old w → IfOk result (λ text. string_bytes text ≡ five_lines clients edits w) }
 {
     let shown = world.head()?;
     let Shown::Head { rev, doc } = shown else {

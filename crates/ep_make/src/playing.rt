@@ -16,7 +16,7 @@ use std::alloc::Global;
 /// One event at the moment 0, and whether it found something to do. A journal without room ends the schedule.
 pub(crate) fn play<D: Crash>(world: &mut World<D>, event: Event) -> Result<bool, Stopped>
     requires { is_stop event ≡ false }
-    ensures { Plays D.told D.failures event world.old result world.new }
+    ensures { Plays D.told D.failures D.stops_alone event world.old result world.new }
 {
     let shown = world.step(0, event)?;
     if is_overfull(&shown) {
@@ -50,14 +50,14 @@ fn is_nothing(shown: &Shown) -> bool
 
 /// Whether the server had something to tell a client, which is then on its way.
 fn push<D: Crash>(alloc: Global, world: &mut World<D>, name: &Units) -> Result<bool, Stopped>
-    ensures { Plays D.told D.failures (event.Push name.now) world.old result world.new }
+    ensures { Plays D.told D.failures D.stops_alone (event.Push name.now) world.old result world.new }
 {
     let copy = name.copy(alloc)?;
     play(world, Event::Push { name: copy })
 }
 
 fn hear<D: Crash>(alloc: Global, world: &mut World<D>, name: &Units) -> Result<(), Stopped>
-    ensures { OnOk result (Moves D.told D.failures (λ w. after w (event.Hear name.now)) world.old world.new) }
+    ensures { OnOk result (Moves D.told D.failures D.stops_alone (λ w. after w (event.Hear name.now)) world.old world.new) }
 {
     let copy = name.copy(alloc)?;
     play(world, Event::Hear { name: copy })?;
@@ -70,7 +70,7 @@ pub(crate) fn drain<D: Crash>(
     world: &mut World<D>,
     name: &Units,
 ) -> Result<(), Stopped>
-    ensures { OnOk result (Leads D.told D.failures (IsDrained name.now) world.old world.new) }
+    ensures { OnOk result (Leads D.told D.failures D.stops_alone (IsDrained name.now) world.old world.new) }
 {
     'pushes: for _ in 0..u64::MAX {
         let told = push(alloc, world, name)?;
@@ -84,7 +84,7 @@ pub(crate) fn drain<D: Crash>(
 
 /// Whether a client had something to submit, which is then on its way.
 fn submit<D: Crash>(alloc: Global, world: &mut World<D>, name: &Units) -> Result<bool, Stopped>
-    ensures { Plays D.told D.failures (event.Submit name.now) world.old result world.new }
+    ensures { Plays D.told D.failures D.stops_alone (event.Submit name.now) world.old result world.new }
 {
     let copy = name.copy(alloc)?;
     play(world, Event::Submit { name: copy })
@@ -96,7 +96,7 @@ pub(crate) fn send<D: Crash>(
     world: &mut World<D>,
     name: &Units,
 ) -> Result<(), Stopped>
-    ensures { OnOk result (Moves D.told D.failures (λ w. sent w name.now) world.old world.new) }
+    ensures { OnOk result (Moves D.told D.failures D.stops_alone (λ w. sent w name.now) world.old world.new) }
 {
     let submitted = submit(alloc, world, name)?;
     if !submitted {
@@ -113,7 +113,7 @@ pub(crate) fn come_back<D: Crash>(
     world: &mut World<D>,
     name: &Units,
 ) -> Result<(), Stopped>
-    ensures { OnOk result (Moves D.told D.failures (λ w. back w name.now) world.old world.new) }
+    ensures { OnOk result (Moves D.told D.failures D.stops_alone (λ w. back w name.now) world.old world.new) }
 {
     let lost = name.copy(alloc)?;
     play(world, Event::Lose { name: lost })?;

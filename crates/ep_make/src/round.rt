@@ -32,7 +32,7 @@ fn units_of(client: &Client) -> Result<u32, Stopped>
 /// How many units the client of a name sees.
 fn view_length<D: Crash>(world: &World<D>, name: &Units) -> Result<u32, Stopped>
     ensures some { IfOk result (λ units. 0 < units) }
-    ensures length { (w : WorldState) → IsOf D.told D.failures world.now w → IfOk result (λ units. units ≡ view_length w name.now) }
+    ensures length { (w : WorldState) → IsOf D.told D.failures D.stops_alone world.now w → IfOk result (λ units. units ≡ view_length w name.now) }
 {
     let Some(client) = world.view(name) else {
         return Err(Stopped);
@@ -47,7 +47,7 @@ fn rest<D: Crash>(
     name: &Units,
     number: u32,
 ) -> Result<(), Stopped>
-    ensures { OnOk result (Leads D.told D.failures (Rests number name.now) world.old world.new) }
+    ensures { OnOk result (Leads D.told D.failures D.stops_alone (Rests number name.now) world.old world.new) }
 {
     match number {
         0 => drain(alloc, world, name),
@@ -64,7 +64,7 @@ fn round<D: Crash>(
     clients: u32,
 ) -> Result<(), Stopped>
     requires { 0 < clients }
-    ensures { OnOk result (Leads D.told D.failures (λ w v. Round clients lots.old.number w lots.new.number v) world.old world.new) }
+    ensures { OnOk result (Leads D.told D.failures D.stops_alone (λ w v. Round clients lots.old.number w lots.new.number v) world.old world.new) }
 {
     let name = draw_name(alloc, lots, clients)?;
     let units = view_length(world, &name)?;
@@ -84,7 +84,7 @@ pub(crate) fn play_rounds<D: Crash>(
     edits: u32,
 ) -> Result<(), Stopped>
     requires { 0 < clients }
-    ensures { OnOk result (Leads D.told D.failures (λ w v. Rounds edits clients lots.old.number w lots.new.number v) world.old world.new) }
+    ensures { OnOk result (Leads D.told D.failures D.stops_alone (λ w v. Rounds edits clients lots.old.number w lots.new.number v) world.old world.new) }
 {
     'rounds: for _round in 0..edits {
         round(alloc, world, lots, clients)?;
@@ -97,7 +97,7 @@ pub(crate) fn log_in<D: Crash>(
     world: &mut World<D>,
     clients: u32,
 ) -> Result<(), Stopped>
-    ensures { OnOk result (Leads D.told D.failures (Each LogsIn clients) world.old world.new) }
+    ensures { OnOk result (Leads D.told D.failures D.stops_alone (Each LogsIn clients) world.old world.new) }
 {
     for k in 0..clients {
         let name = name_of(alloc, k + 1)?;
@@ -108,7 +108,7 @@ pub(crate) fn log_in<D: Crash>(
 
 /// A client hears all, and sends what it has left: three times.
 fn settle<D: Crash>(alloc: Global, world: &mut World<D>, name: &Units) -> Result<(), Stopped>
-    ensures { OnOk result (Leads D.told D.failures (Settles 3 name.now) world.old world.new) }
+    ensures { OnOk result (Leads D.told D.failures D.stops_alone (Settles 3 name.now) world.old world.new) }
 {
     'times: for _time in 0_u32..3 {
         drain(alloc, world, name)?;
@@ -122,7 +122,7 @@ pub(crate) fn settle_all<D: Crash>(
     world: &mut World<D>,
     clients: u32,
 ) -> Result<(), Stopped>
-    ensures { OnOk result (Leads D.told D.failures (Each (Settles 3) clients) world.old world.new) }
+    ensures { OnOk result (Leads D.told D.failures D.stops_alone (Each (Settles 3) clients) world.old world.new) }
 {
     for k in 0..clients {
         let name = name_of(alloc, k + 1)?;
@@ -136,7 +136,7 @@ pub(crate) fn drain_all<D: Crash>(
     world: &mut World<D>,
     clients: u32,
 ) -> Result<(), Stopped>
-    ensures { OnOk result (Leads D.told D.failures (Each IsDrained clients) world.old world.new) }
+    ensures { OnOk result (Leads D.told D.failures D.stops_alone (Each IsDrained clients) world.old world.new) }
 {
     for k in 0..clients {
         let name = name_of(alloc, k + 1)?;

@@ -29,7 +29,7 @@ const LIMITS: Limits = Limits {
 
 /// The pad of an empty disk, which isn't made yet, and nobody.
 fn open(alloc: Global) -> Result<World<MemDisk>, Stopped>
-    ensures { IfOk result (λ world. IsOf ⟦<MemDisk as Disk>⟧.told ⟦<MemDisk as Device>⟧.failures world (start make_limits pad_name)) }
+    ensures { IfOk result (λ world. IsOf ⟦<MemDisk as Disk>⟧.told ⟦<MemDisk as Device>⟧.failures ⟦<MemDisk as Disk>⟧.stops_alone world (start make_limits pad_name)) }
 {
     let disk = MemDisk::new(alloc, Vec::new(alloc), Vec::new(alloc))?;
     let name = Units::from_str(alloc, "pad")?;
@@ -43,7 +43,7 @@ fn open(alloc: Global) -> Result<World<MemDisk>, Stopped>
 
 /// A new pad with an empty text.
 fn begin(alloc: Global) -> Result<World<MemDisk>, Stopped>
-    ensures { IfOk result (λ world. IsOf ⟦<MemDisk as Disk>⟧.told ⟦<MemDisk as Device>⟧.failures world new_world) }
+    ensures { IfOk result (λ world. IsOf ⟦<MemDisk as Disk>⟧.told ⟦<MemDisk as Device>⟧.failures ⟦<MemDisk as Disk>⟧.stops_alone world new_world) }
 {
     let mut world = open(alloc)?;
     let text = Units::new(alloc);
@@ -59,7 +59,7 @@ fn play_schedule(
     edits: u32,
 ) -> Result<World<MemDisk>, Stopped>
     requires { 1 ≤ clients }
-    ensures { IfOk result (λ world. (end : WorldState) × (Makes number clients edits end × IsOf ⟦<MemDisk as Disk>⟧.told ⟦<MemDisk as Device>⟧.failures world end)) }
+    ensures { IfOk result (λ world. (end : WorldState) × (Makes number clients edits end × IsOf ⟦<MemDisk as Disk>⟧.told ⟦<MemDisk as Device>⟧.failures ⟦<MemDisk as Disk>⟧.stops_alone world end)) }
 {
     let mut world = begin(alloc)?;
     log_in(alloc, &mut world, clients)?;

@@ -1,7 +1,8 @@
 -- A call's step of a machine, from its parts.
 use Rattle.std.proofs.Common.{◌≡◌, inl, inr, ℕ, Bool, List, true, true≢false, Option, Ok, Err, Result, refl, sym, ap, ◌∙◌, subst, arith}
 use Rattle.std.specs.Prelude.{MatchResult}
-use Rattle.ep_outside.specs.Disk.{Contents}
+use Rattle.ep_outside.specs.Disk.{Contents, KeepsMarks}
+use Rattle.ep_outside.specs.Moments.{LeavesOnly}
 use Rattle.ep_history.specs.Pad.{PadState}
 use Rattle.ep_history.specs.Records.{IsKept as AreKept}
 use Rattle.ep_history.specs.Entries.{Entry, Answer, Reply, outcome, is_recordable}
@@ -12,14 +13,19 @@ use Rattle.ep_history.specs.declared.pad_bad.PadBad.{PadBad}
 use Rattle.ep_history.specs.declared.record.Record.{Record}
 use Rattle.ep_history.proofs.Steps.{IsGoodOutcome, outcome-good, reopening-kept, settled-kept}
 use Rattle.ep_pad_file.specs.Standing.{size}
-use Rattle.ep_pad_state.specs.Answering.{IsRefused, Reads, Changes}
+use Rattle.ep_units.specs.declared.session.Session.{Session}
+use Rattle.ep_history.specs.Entries.Entry.{Fetch}
+use Rattle.ep_history.specs.Entries.Answer.{FetchAnswer}
+use Rattle.ep_history.specs.Readings.{fetch}
+use Rattle.ep_pad_state.specs.declared.answers.Fetched.{Fetched}
+use Rattle.ep_pad_state.specs.Answering.{IsRefused, Reads, ReadsFirst, Changes}
 use Rattle.ep_pad_state.specs.Held.{IsPad}
 use Rattle.ep_pad_state.specs.Making.{after}
 use Rattle.ep_pad_state.specs.declared.change.PadChange.{PadChange}
 use Rattle.ep_pad_state.specs.declared.change.PadChange.TheVariants as made_by
 use Rattle.ep_pad_state.specs.declared.change.Ready.{Ready}
 use Rattle.ep_pad_state.specs.declared.pad.Pad.{Pad}
-use Rattle.ep_pad.specs.Crashes.{Comes}
+use Rattle.ep_pad.specs.Crashes.{Comes, MayRemain, IsStepOfFirst}
 use Rattle.ep_pad.specs.Held.{Held}
 use Rattle.ep_pad.specs.Standing.{Stands, IsOpen, replied}
 use Rattle.ep_pad.specs.Opening.{IsWoken, Sleeps}
@@ -122,6 +128,37 @@ module _ {D : Type 0} (told_by : D → Option Contents) (failures moment : D →
       go (Wanting lacks t) = Lacks (ap (λ b. Err b) lacks) t
       go (IsFull f t) = full size mid e r a pad bad h.0 is can f t
       go (Fails count why fits rose t) = subst (λ (b : PadBad). IsOpenStep size mid e (Err b) h.0) (sym why) (fails size mid e r a pad count h.0 is can fits rose t)
+
+module _ {D : Type 0} (told_by : D → Option Contents) (failures moment : D → ℕ) (since : D → ℕ → List ℕ → Type 0) (is_steady stops_alone : D → Bool) (left : D → Option ℕ) where
+  pub steps-first : (st : MachineState) (s : Session) (from told n : ℕ) (r : Result Fetched PadBad) (old new : Held D)
+      → (next : MachineState) × IsStepOfFirst st s from told n r next × Came told_by failures moment since is_steady stops_alone left old st new next
+      → (next : MachineState)
+      × IsStepOfFirst st s from told n r next
+      × Stands told_by failures new next
+      × LeavesOnly moment since old.disk new.disk (MayRemain st next)
+      × KeepsMarks is_steady stops_alone left old.disk new.disk
+  steps-first st s from told n r old new h = (h.0, h.1, h.2.0, h.2.1, h.2.2)
+
+  -- a machine that does not open refuses it
+  pub asleep-first : (st : MachineState) (old m : Held D) (s : Session) (from told n : ℕ) (bad : PadBad) → (next : MachineState) × Sleeps st bad next × Came told_by failures moment since is_steady stops_alone left old st m next
+      → (next : MachineState)
+      × IsStepOfFirst st s from told n (Err bad) next
+      × Stands told_by failures m next
+      × LeavesOnly moment since old.disk m.disk (MayRemain st next)
+      × KeepsMarks is_steady stops_alone left old.disk m.disk
+  asleep-first st old m s from told n bad h =
+      steps-first st s from told n (Err bad) old m (asleep told_by failures moment since is_steady stops_alone left st old m (Fetch s from told) bad h)
+
+  -- the first of a fetch
+  pub reads-first : (st mid : MachineState) (old m : Held D) (s : Session) (from told n : ℕ) (r : Result Fetched PadBad) → IsWoken st mid → Came told_by failures moment since is_steady stops_alone left old st m mid
+      → ReadsFirst m.pad s from told n r
+      → (next : MachineState) × IsStepOfFirst st s from told n r next × Came told_by failures moment since is_steady stops_alone left old st m next
+  reads-first st mid old m s from told n (Ok x) w c h =
+      let y = h mid.pad (opened told_by failures st mid m w c.0).pad in
+      let whole = fetch mid.pad s from told in
+      (mid, (whole, step-woken st mid mid (Fetch s from told) (Ok (FetchAnswer whole)) w (answers size mid (Fetch s from told) (FetchAnswer whole) mid.pad mid y.0 (refl, omega arith)), y.1), c)
+  reads-first st mid old m s from told n (Err bad) w c h =
+      (mid, step-woken st mid mid (Fetch s from told) (Err bad) w (refused mid (Fetch s from told) bad (h mid.pad (opened told_by failures st mid m w c.0).pad)), c)
 
 module _ {D A : Type 0} (told_by : D → Option Contents) (failures moment : D → ℕ) (since : D → ℕ → List ℕ → Type 0) (is_steady stops_alone : D → Bool) (left : D → Option ℕ) where
   -- a reading

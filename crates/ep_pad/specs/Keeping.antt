@@ -1,4 +1,4 @@
--- What keeping a record comes to.
+-- Working words of private contracts: what keeping a record comes to.
 use Rattle.std.specs.Prelude.{◌≡◌, ◌⊎◌, ℕ, List, [], ◌∷◌, ◌++◌, Option, Some, None}
 use Rattle.ep_outside.specs.Crash.{IsAsked}
 use Rattle.ep_outside.specs.Disk.{Contents}

@@ -7,7 +7,7 @@ ghost use Rattle.ep_history.specs.Entries.Entry.{Login, Resume, Accept, Fetch, L
 ghost use Rattle.ep_history.specs.Entries.Answer.{LoginAnswer, ResumeAnswer, CommitAnswer, FetchAnswer, BirthAnswer, TextAnswer, HistoryAnswer, StatusAnswer, Done};
 ghost use Rattle.ep_step.specs.Telling.{told_by};
 ghost use Rattle.ep_pad_state.specs.Answering.{welcome_of, catch_up_of, fetched_of, piece_of, status_of};
-ghost use Rattle.ep_pad.specs.Crashes.{StepsOver};
+ghost use Rattle.ep_pad.specs.Crashes.{FetchesFirst, StepsOver};
 
 use crate::machine::PadMachine;
 use ep_apply::Doc;
@@ -65,6 +65,21 @@ impl<D: Disk> PadMachine<D> {
     {
         self.wake()?;
         self.pad.fetch(self.alloc, session, from, told)
+    }
+
+    /// The same, but of the revisions the first ones alone, and of the edits those that lie within them.
+    pub fn fetch_first(
+        &mut self,
+        session: Session,
+        from: u64,
+        told: u64,
+        most: u64,
+    ) -> Result<Fetched, PadBad>
+        requires { most ≤ 64 }
+        ensures { FetchesFirst D.told D.failures D.moment D.since D.is_steady D.stops_alone D.left self.old session from told most result self.new }
+    {
+        self.wake()?;
+        self.pad.fetch_first(self.alloc, session, from, told, most)
     }
 
     /// A session leaves.

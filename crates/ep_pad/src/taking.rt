@@ -1,6 +1,6 @@
 //! A take that is stopped on the way.
 
-ghost use Rattle.std.specs.Prelude.{◌≡◌, ℕ, List, true, Some, None, OnOk, MatchResult};
+ghost use Rattle.std.specs.Prelude.{◌≡◌, ℕ, List, true, Some, None, IfOk, OnOk, MatchResult};
 ghost use Rattle.ep_outside.specs.Crash.{IsAsked};
 ghost use Rattle.ep_outside.specs.Disk.{Contents};
 ghost use Rattle.ep_history.specs.Entries.Entry.{Accept};
@@ -11,7 +11,7 @@ ghost use Rattle.ep_pad_file.specs.Stopping.{gate_behind, is_kept};
 ghost use Rattle.ep_step.specs.Telling.{told_by};
 ghost use Rattle.ep_pad.specs.Crashes.{Comes};
 ghost use Rattle.ep_pad.specs.Held.{Held};
-ghost use Rattle.ep_pad.specs.Opening.{IsWoken, MayFind};
+ghost use Rattle.ep_pad.specs.Opening.{stopped, IsWoken, MayFind};
 ghost use Rattle.ep_pad.specs.Standing.{replied, Stands};
 ghost use Rattle.ep_pad.specs.Stopping.{StaysStopped, StopsIn};
 
@@ -70,6 +70,12 @@ impl<D: Crash> PadMachine<D> {
             × IsWoken at last × Stands D.told D.failures self.new last)
             (λ bad. (next : MachineState) × StaysStopped st (Accept session base change now) bad next × Stands D.told D.failures self.new next) }
         ensures works { OnOk result (D.left self.new.disk ≡ None) }
+        // Over any disk it is one step of the machine, and then a crash.
+        ensures steps { (st : MachineState) → IsKeptState st → Stands D.told D.failures self.old st → IfOk result
+            (λ taken. (mid next last : MachineState) × IsWoken st mid
+            × IsStep size mid (Accept session base change now) (replied (λ x. CommitAnswer (told_by x)) taken) next
+            × IsWoken (stopped next) last × Stands D.told D.failures self.new last) }
+        ensures alone { (st : MachineState) → IsKeptState st → Stands D.told D.failures self.old st → D.stops_alone self.new.disk ≡ D.stops_alone self.old.disk }
     {
         self.wake()?;
         self.stop_after(calls, Image::Old);

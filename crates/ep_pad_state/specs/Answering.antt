@@ -1,9 +1,12 @@
 -- What a call of a pad in memory comes to.
-use Rattle.std.specs.Prelude.{◌≡◌, ◌⊎◌, Result, MatchResult}
+use Rattle.std.specs.Prelude.{◌≡◌, ◌⊎◌, ℕ, ◌+◌, nat_le, length, take, Result, MatchResult}
+use Rattle.std.specs.List.{take_while}
+use Rattle.ep_units.specs.declared.session.Session.{Session}
 use Rattle.ep_history.specs.Pad.{PadState}
-use Rattle.ep_history.specs.Readings.{Welcome as AWelcome, CatchUp as ACatchUp, Fetched as AFetched, Piece as APiece, PadStatus as APadStatus}
+use Rattle.ep_history.specs.Readings.{fetch, Welcome as AWelcome, CatchUp as ACatchUp, Fetched as AFetched, Piece as APiece, PadStatus as APadStatus}
 use Rattle.ep_history.specs.Entries.{Entry, Answer, Outcome, outcome}
-use Rattle.ep_history.specs.Entries.Answer.{LoginAnswer}
+use Rattle.ep_history.specs.Entries.Entry.{Fetch}
+use Rattle.ep_history.specs.Entries.Answer.{LoginAnswer, FetchAnswer}
 use Rattle.ep_history.specs.Entries.Outcome.{Refuses, Answers, Records}
 use Rattle.ep_history.specs.declared.pad_bad.PadBad.{PadBad}
 use Rattle.ep_history.specs.declared.pad_bad.PadBad.TheVariants.{NoMemory}
@@ -45,6 +48,17 @@ IsRefused o bad = (o ≡ Refuses bad) ⊎ (bad ≡ NoMemory)
 -- a reading answers what the entry comes to, of each pad that it stands for
 abbrev pub Reads : {A : Type 0} → Pad → Entry → (A → Answer) → Result A PadBad → Type 0
 Reads k e f r = (p : PadState) → IsPad k p → MatchResult r (λ x. outcome p e ≡ Answers (f x) p) (IsRefused (outcome p e))
+
+-- of what is fetched behind revision `from`, the first n revisions, and of the edits that became nothing those that lie within them
+abbrev pub first_of : ℕ → ℕ → AFetched → AFetched
+first_of n from f = let revs = take n f.revs in record { head = f.head; revs = revs; nops = take_while (λ h. nat_le h (from + length revs)) f.nops }
+
+-- a fetch gives only the first n revisions of what it comes to
+abbrev pub ReadsFirst : Pad → Session → ℕ → ℕ → ℕ → Result Fetched PadBad → Type 0
+ReadsFirst k s from told n r =
+    (p : PadState) → IsPad k p
+    → MatchResult r (λ x. (outcome p (Fetch s from told) ≡ Answers (FetchAnswer (fetch p s from told)) p) × (fetched_of x ≡ first_of n from (fetch p s from told)))
+    (IsRefused (outcome p (Fetch s from told)))
 
 -- so does a change that isn't recorded, and then it stands for what became of that pad; refused, for the pad as it was
 abbrev pub Changes : {A : Type 0} → Pad → Entry → (A → Answer) → Result A PadBad → Pad → Type 0

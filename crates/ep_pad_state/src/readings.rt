@@ -18,7 +18,7 @@ impl Pad {
     ghost use Rattle.ep_pad_state.specs.Held.{IsBirth, IsPad};
     ghost use Rattle.ep_history.specs.Entries.Entry.{Fetch, ReadText, ReadHistory, ReadStatus};
     ghost use Rattle.ep_history.specs.Entries.Answer.{FetchAnswer, TextAnswer, HistoryAnswer, StatusAnswer};
-    ghost use Rattle.ep_pad_state.specs.Answering.{Reads, fetched_of, piece_of, status_of};
+    ghost use Rattle.ep_pad_state.specs.Answering.{Reads, ReadsFirst, fetched_of, piece_of, status_of};
 
     /// The document of a revision, or of the head.
     pub fn text(&self, alloc: Global, rev: Option<u64>) -> Result<Doc, PadBad>
@@ -67,12 +67,27 @@ impl Pad {
     ) -> Result<Fetched, PadBad>
         ensures { Reads self.now (Fetch session from told) (λ x. FetchAnswer (fetched_of x)) result }
     {
+        self.fetch_first(alloc, session, from, told, FETCH_SIZE)
+    }
+
+    /// The same, but of the revisions the first ones alone, and of the edits those that lie within them.
+    pub fn fetch_first(
+        &self,
+        alloc: Global,
+        session: Session,
+        from: u64,
+        told: u64,
+        most: u64,
+    ) -> Result<Fetched, PadBad>
+        requires { most ≤ 64 }
+        ensures { ReadsFirst self.now session from told most result }
+    {
         let birth = self.birth_for(session)?;
         let head = birth.last();
         if head < from {
             return Err(PadBad::BadRev(head));
         }
-        let revs = birth.behind(alloc, from, FETCH_SIZE)?;
+        let revs = birth.behind(alloc, from, most)?;
         let nops = birth.nops_to(alloc, session, told, from + revs.len() as u64)?;
         Ok(Fetched { head, revs, nops })
     }

@@ -10,7 +10,7 @@ use Rattle.ep_cs.specs.Plain.{plain, plain_cell}
 use Rattle.ep_cs.specs.Splice.{dropped, kept, splice}
 use Rattle.ep_event.specs.declared.event.Local.{Local}
 use Rattle.ep_event.specs.declared.event.Local.TheVariants as local
-use Rattle.ep_invert.specs.Paint.{paint, painted}
+use Rattle.ep_invert.specs.Paint.{paint, paint_steps}
 use Rattle.ep_local.specs.Local.{local_edit}
 use Rattle.ep_peer.specs.Altered.{says_nothing}
 
@@ -42,7 +42,7 @@ deletes_some n at (suc units) = kept_on at (dropped (suc units) ++ kept (n - (at
 
 formats_some : (n at units : ℕ) (m : AttrMap) → is_none m ≡ false → is_identity (paint n at units m) ≡ (units == 0)
 formats_some n at zero m some = kept_on at (kept (n - (at + 0))) ∙ kept_all (n - (at + 0))
-formats_some n at (suc units) m some = kept_on at (painted (suc units) m ++ kept (n - (at + suc units))) ∙ (ap (λ b. b && is_identity (edit_of (painted units m ++ kept (n - (at + suc units))))) some ∙ sym (not_zero units))
+formats_some n at (suc units) m some = kept_on at (paint_steps (suc units) m ++ kept (n - (at + suc units))) ∙ (ap (λ b. b && is_identity (edit_of (paint_steps units m ++ kept (n - (at + suc units))))) some ∙ sym (not_zero units))
 
 pub says : (e : Local) (doc : Doc) → is_identity (local_edit e doc) ≡ says_nothing e
 says (local.Insert at text) doc = inserts_some (length doc) at text

@@ -27,7 +27,7 @@ use Rattle.ep_client.specs.declared.bad.ClientBad.TheVariants as bad
 use Rattle.ep_client.specs.Refusals.{first_of, fit_fault, nop_fault, order_fault, rev_fault}
 use Rattle.ep_event.specs.declared.event.Local.{Local}
 use Rattle.ep_event.specs.declared.event.Local.TheVariants as local
-use Rattle.ep_invert.specs.Paint.{painted}
+use Rattle.ep_invert.specs.Paint.{paint_steps}
 use Rattle.ep_invert.specs.Refusal.{cut_bad, splice_bad}
 use Rattle.ep_invert.specs.declared.bad.SpliceBad.TheVariants as splice
 use Rattle.ep_invert.proofs.Answered.{length-paint}
@@ -65,7 +65,7 @@ line_long (local.Format at units key value) doc h = sym (length-paint (length do
 pub line_settled : (e : Local) (doc : Doc) → IsSettled (local_edit e doc)
 line_settled (local.Insert at text) doc = splice_settled (length doc) at 0 (plain text)
 line_settled (local.Delete at units) doc = splice_settled (length doc) at units []
-line_settled (local.Format at units key value) doc = settle_settled [] (kept at ++ (painted units (of_pairs ((key, value) ∷ [])) ++ kept (length doc - (at + units))))
+line_settled (local.Format at units key value) doc = settle_settled [] (kept at ++ (paint_steps units (of_pairs ((key, value) ∷ [])) ++ kept (length doc - (at + units))))
 
 -- ---- an edit of an idle client
 

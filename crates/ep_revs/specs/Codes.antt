@@ -1,4 +1,4 @@
--- A code of revisions, by which they can be a model's value.
+-- Working words of private contracts: a code of revisions, by which they can be a model's value.
 use Rattle.std.specs.Prelude.{ℕ, List, refl}
 use Rattle.std.specs.Coded.{Coded, coded_ℕ, coded_list, coded×, code_by}
 use Rattle.ep_units.specs.Text.{Text}

@@ -1,3 +1,4 @@
 pub mod Revisions
 pub mod Codes
 pub mod Held
+pub mod Near

@@ -1,10 +1,13 @@
 //! Revisions and their documents.
 
-ghost use Rattle.std.specs.Prelude.{◌≡◌, ◌+◌, ◌<◌, ◌≤◌, ◌++◌, ◌∷◌, [], suc, length, drop, Some, OnOk, IfOk, IfSome, IsOk};
+ghost use Rattle.std.specs.Prelude.{◌≡◌, ◌+◌, ◌<◌, ◌≤◌, ◌++◌, ◌∷◌, [], suc, List, length, drop, All, Some, OnOk, IfOk, IfSome, IsOk};
+ghost use Rattle.ep_cs.specs.Doc.{Doc as ADoc};
 ghost use Rattle.ep_cs.specs.Edit.{apply};
 ghost use Rattle.ep_cs.specs.Fits.{Fits};
 ghost use Rattle.ep_cs.specs.Made.{AreMade};
 ghost use Rattle.ep_history.specs.Lists.{at};
+ghost use Rattle.ep_history.specs.declared.rev.Rev.{Rev};
+ghost use Rattle.ep_revs.specs.Near.{IsNear};
 ghost use Rattle.ep_revs.specs.Revisions.{behind_frame, changes_of, doc_of, head_of, last_doc};
 
 use crate::steps::Steps;
@@ -13,19 +16,38 @@ use ep_history::Rev;
 use ep_units::NoMemory;
 use std::alloc::Global;
 use std::marker::{Brand, Model};
+use std::mem::replace;
 use std::sync::ledger::{Blank, Ledger};
 
 /// A revision is a frame where its number is divisible by this.
 const SPACING: usize = 100;
 
+/// Near the head the document of one revision in so many is kept, so that a base there is fewer applications away, and not
+/// up to 99 from its frame.
+const NEAR: usize = 8;
+
+/// Which of so many revisions that is: the second, which is never a frame, since its number is odd.
+const SECOND: usize = 2;
+
+/// So many of these documents are kept at most: they go back about as far as a frame does.
+const MOST_NEAR: usize = 12;
+
+/// The document of a revision near the head.
+#[derive(Drop)]
+pub(crate) struct Near {
+    pub(crate) rev: usize,
+    pub(crate) doc: Doc,
+}
+
 /// The revisions of a birth, the first of which is revision 0.
 ///
-/// `frames` has the document of each frame, and `past` the head's, where the head is past the last frame. There is room
-/// for `room` more revisions, frames among them.
+/// `frames` has the document of each frame, `past` the head's, where the head is past the last frame, and `near` a few of
+/// those before it, the earliest first. There is room for `room` more revisions, frames among them.
 #[derive(Drop)]
 pub struct Revs {
     revs: Vec<Rev>,
     frames: Vec<Doc>,
+    near: Vec<Near>,
     past: Option<Doc>,
     room: usize,
 }
@@ -45,6 +67,36 @@ impl Model for Revs {
     ghost invariant = { IsHeld };
 }
 
+/// The earliest document goes where there are as many as are kept.
+fn drop_first(near: &mut Vec<Near>)
+    ensures { (vs : List Rev) → All (IsNear vs) near.old.items → All (IsNear vs) near.new.items }
+{
+    if near.len() >= MOST_NEAR {
+        near.remove(0);
+    }
+}
+
+/// Makes room for one document more, for which the earliest may go.
+fn make_room(near: &mut Vec<Near>) -> Result<(), NoMemory>
+    ensures { (vs : List Rev) → All (IsNear vs) near.old.items → All (IsNear vs) near.new.items }
+{
+    drop_first(near);
+    near.reserve(1)?;
+    Ok(())
+}
+
+/// Keeps the document of the last of so many revisions, where that is given, is one to be kept, and there is room.
+fn keep_near(near: &mut Vec<Near>, revs: usize, last: Option<Doc>)
+    ensures { (vs : List Rev) → length vs ≡ revs → ((d : ADoc) → last ≡ Some d → d ≡ last_doc vs) → All (IsNear vs) near.old.items → All (IsNear vs) near.new.items }
+{
+    if revs % NEAR != SECOND || near.len() >= near.capacity() {
+        return;
+    }
+    if let Some(doc) = last {
+        near.push_reserved(Near { rev: revs - 1, doc });
+    }
+}
+
 impl Revs {
     /// No revisions, and no room.
     pub fn new(alloc: Global) -> Revs
@@ -53,6 +105,7 @@ impl Revs {
         Revs {
             revs: Vec::new(alloc),
             frames: Vec::new(alloc),
+            near: Vec::new(alloc),
             past: None,
             room: 0,
         }
@@ -68,6 +121,7 @@ impl Revs {
         if self.room < 2 {
             self.revs.reserve(2)?;
             self.frames.reserve(1)?;
+            make_room(&mut self.near)?;
             self.room = 2;
         }
         Ok(())
@@ -87,7 +141,8 @@ impl Revs {
         } else {
             Some(doc)
         };
-        self.past = past;
+        let last = replace(&mut self.past, past);
+        keep_near(&mut self.near, self.revs.len(), last);
         self.revs.push_reserved(rev);
         self.room -= 1;
     }
@@ -152,7 +207,7 @@ impl Revs {
         Ok(doc)
     }
 
-    /// The document of a revision, where nobody counts the steps. The head's takes none.
+    /// The document of a revision, where nobody counts the steps. The head's takes none, and one near it few.
     pub fn doc(&self, alloc: Global, r: u64) -> Result<Doc, NoMemory>
         requires { r < length self.now.revs }
         ensures { IfOk result (λ doc. doc ≡ doc_of self.now.revs r) }
@@ -160,7 +215,36 @@ impl Revs {
         if r as usize == self.revs.len() - 1 {
             return self.head_doc().copy(alloc);
         }
-        self.sought::<Brand>(alloc, r, Blank::new(1))
+        match self.nearest(r as usize) {
+            Some(near) => self.walked(alloc, near, r as usize),
+            None => self.sought::<Brand>(alloc, r, Blank::new(1)),
+        }
+    }
+
+    /// The last document near the head that is not behind a revision, where that is nearer than its frame.
+    fn nearest(&self, r: usize) -> Option<&Near>
+        ensures { IfSome result (λ near. IsNear self.now.revs near.now × (near.now.rev ≤ r)) }
+    {
+        let mut found = None;
+        for near in &self.near {
+            if near.rev <= r && r / SPACING * SPACING <= near.rev {
+                found = Some(near);
+            }
+        }
+        found
+    }
+
+    /// The document of a revision, from one that is not behind it.
+    fn walked(&self, alloc: Global, from: &Near, r: usize) -> Result<Doc, NoMemory>
+        requires from { IsNear self.now.revs from.now × (from.now.rev ≤ r) }
+        requires there { r < length self.now.revs }
+        ensures { IfOk result (λ doc. doc ≡ doc_of self.now.revs r) }
+    {
+        let mut doc = from.doc.copy(alloc)?;
+        for i in from.rev..r {
+            doc = apply(alloc, &doc, &self.revs[i + 1].change)?;
+        }
+        Ok(doc)
     }
 
     /// The same, with the ledger in which the steps are counted.

@@ -87,6 +87,17 @@ fn sought_from_the_frame_below(rt: HostRuntime) -> Result<(), Fail> {
 }
 
 #[test]
+fn read_behind_the_head(rt: HostRuntime) -> Result<(), Fail> {
+    let alloc = rt.alloc();
+    let revs = revisions(alloc, 131)?;
+    assert_eq!(rt; revs.head(), Some(130));
+    assert_eq!(rt; revs.doc(alloc, 128)?.len(), 1);
+    assert_eq!(rt; revs.doc(alloc, 101)?.len(), 1);
+    assert_eq!(rt; revs.doc(alloc, 7)?.len(), 1);
+    Ok(())
+}
+
+#[test]
 fn read_with_ample_memory(rt: HostRuntime) -> Result<(), Fail> {
     let alloc = rt.alloc();
     let revs = revisions(alloc, 3)?;

@@ -1,4 +1,5 @@
 pub mod Transcripts
+pub mod One
 pub mod Playing
 pub mod Scripts
 pub mod Lines

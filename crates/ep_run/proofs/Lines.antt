@@ -1,17 +1,23 @@
 -- How a line is played.
-use Rattle.std.proofs.Common.{◌≡◌, ℕ, Option, Some, None, refl, sym, ap, ◌∙◌, subst}
-use Rattle.std.specs.Prelude.{Result, Ok, Err, String}
+use Rattle.std.proofs.Common.{◌≡◌, ℕ, Bool, true, false, List, Option, Some, None, refl, sym, ap, ◌∙◌, subst}
+use Rattle.std.specs.Prelude.{◌==◌, ◌&&◌, ◌||◌, nat_le, is_none, is_some, Result, Ok, Err, String}
 use Rattle.std.specs.String.{string_bytes}
 use Rattle.std.specs.declared.alloc.Global.{Global}
 use Rattle.ep_units.specs.Text.{Text}
 use Rattle.ep_csread.specs.Reading.{reading}
 use Rattle.ep_outside.specs.Disk.{Contents}
+use Rattle.ep_outside.specs.declared.image.Image.{Image}
+use Rattle.ep_outside.specs.declared.image.Image.TheVariants.{Old, New, Torn}
+use Rattle.ep_history.specs.declared.record.Record.{Record}
+use Rattle.ep_pad_file.specs.Stopping.{gate_behind, opens_gate}
+use Rattle.ep_schedule.specs.Headline.{next_up}
 use Rattle.ep_schedule.specs.World.{Actor, Member, WorldState}
 use Rattle.ep_schedule.specs.World.Actor.{Nobody, Guest, Named}
 use Rattle.ep_schedule.specs.Kepts.{Kepts}
 use Rattle.ep_event.specs.declared.event.Event.{Event as Told}
 use Rattle.ep_event.specs.declared.event.Event.TheVariants as event
 use Rattle.ep_event.specs.declared.shown.Shown.{Shown}
+use Rattle.ep_script.specs.Left.{left}
 use Rattle.ep_script.specs.Line.{Gives}
 use Rattle.ep_script.specs.Seen.{Seen, seen}
 use Rattle.ep_script.specs.declared.line.Line.{Line}
@@ -19,15 +25,16 @@ use Rattle.ep_script.specs.declared.line.Line.TheVariants as line
 use Rattle.ep_script.specs.declared.line.LineBad.{LineBad}
 use Rattle.ep_script.specs.declared.line.LineBad.TheVariants as line_bad
 use Rattle.ep_world.specs.Events.{event_at, is_client, of_client}
+use Rattle.ep_world.specs.Journal.{full_by, keeps_record, record_taken}
 use Rattle.ep_world.specs.Reading.{ShowsClient, ShowsPad}
-use Rattle.ep_world.specs.Shows.{shows_view, shows_view_marks}
+use Rattle.ep_world.specs.Shows.{shows, shows_view, shows_view_marks}
 use Rattle.ep_world.specs.Standing.{Comes, IsPlayed, StandsFor, overfull_at}
 use Rattle.ep_world.specs.Standing.IsPlayed.{IsEvent as EventPlayed, HasNoRoom as NoRoomPlayed}
 use Rattle.ep_world.specs.declared.bad.WorldBad.{WorldBad}
 use Rattle.ep_world.specs.declared.bad.WorldBad.TheVariants as world_bad
 use Rattle.ep_world.specs.declared.world.World.{World}
 use Rattle.ep_world.proofs.Leading.{more}
-use Rattle.ep_run.specs.Play.{Scene, Happens, Shows, ShowsRead, after, line_read, line_seen, stops, unless, written}
+use Rattle.ep_run.specs.Play.{Scene, Happens, Shows, ShowsRead, ShowsSeen, after, keeps_left, leaves_gate, line_read, line_seen, line_stops, played, stop_at, stops, unless, written}
 use Rattle.ep_run.specs.Play.Happens.{IsEvent, HasNoRoom}
 use Rattle.ep_run.specs.Played.{IsStage, Plays, PlaysLine, Puts, Steps}
 use Rattle.ep_run.specs.Stops.{stop_of_line, stop_of_world}
@@ -59,9 +66,23 @@ is-nobody (Named m) f e = absurd e
 
 -- ---- what is seen of a line is enough
 
-event-seen : (k : ℕ) (s next : Scene) (e : Told) (o : Option Shown) → Shows k s (line.Event e) o next → Shows k s (line_seen (seen (line.Event e))) o next
-event-seen k s next (event.Stop (Some at)) o (IsEvent kept a b) = IsEvent kept a b
-event-seen k s next (event.Stop (Some at)) o (HasNoRoom n a b c) = HasNoRoom n a b c
+-- what is seen of an image tells as much
+gate-seen : (gate : ℕ) (image : Image) → opens_gate gate image ≡ leaves_gate gate (left image)
+gate-seen gate Old = refl
+gate-seen gate New = refl
+gate-seen gate (Torn length fill) = refl
+
+keeps-seen : (k : ℕ) (s : Scene) (n : Text) (calls : ℕ) (image : Image)
+    → keeps_record s.journal s.world.pad k (next_up (s.world.actors n)) calls image ≡ keeps_left s k n calls (left image)
+keeps-seen k s n calls image =
+    ap (λ b. (nat_le 4 calls || (calls == 3 && b)) && is_none (full_by s.journal s.world.pad (record_taken s.world.pad k (next_up (s.world.actors n)))))
+    (gate-seen (gate_behind s.journal) image)
+
+event-seen : (k : ℕ) (s next : Scene) (e : Told) (o : Option Shown) → Shows k s (line.Event e) o next → ShowsSeen k s (seen (line.Event e)) o next
+event-seen k s next (event.Stop (Some at)) o (IsEvent kept a r d b) =
+    let e = d ∙ keeps-seen k s at.name at.calls at.image in
+    (a ∙ ap (λ x. Some (shows s.world k x (stop_at at.name at.calls))) e, b ∙ ap (λ x. played k s x (stop_at at.name at.calls)) e)
+event-seen k s next (event.Stop (Some at)) o (HasNoRoom a b c) = absurd (let z : is_some o ≡ true = b in let y : is_some o ≡ false = ap is_some a in let w : true ≡ false = sym z ∙ y in cc)
 event-seen k s next (event.Stop None) o h = h
 event-seen k s next (event.Create t) o h = h
 event-seen k s next (event.SetText t) o h = h
@@ -78,7 +99,7 @@ event-seen k s next (event.Hear n) o h = h
 event-seen k s next (event.Lose n) o h = h
 event-seen k s next (event.Resume n) o h = h
 
-shows-seen : (k : ℕ) (s next : Scene) (l : Line) (o : Option Shown) → Shows k s l o next → Shows k s (line_seen (seen l)) o next
+shows-seen : (k : ℕ) (s next : Scene) (l : Line) (o : Option Shown) → Shows k s l o next → ShowsSeen k s (seen l) o next
 shows-seen k s next line.Blank o h = h
 shows-seen k s next (line.Event e) o h = event-seen k s next e o h
 shows-seen k s next (line.Inject n b t) o h = h
@@ -89,7 +110,7 @@ shows-seen k s next (line.Text r) o h = h
 shows-seen k s next line.Marks o h = h
 shows-seen k s next (line.ViewMarks n) o h = h
 
-stops-event : (s : Scene) (e : Told) → stops s.world (Ok (line_seen (seen (line.Event e)))) ≡ stops s.world (Ok (line.Event e))
+stops-event : (s : Scene) (e : Told) → line_stops s.world (line_seen (seen (line.Event e))) ≡ line_stops s.world (line.Event e)
 stops-event s (event.Stop (Some at)) = refl
 stops-event s (event.Stop None) = refl
 stops-event s (event.Create t) = refl
@@ -107,7 +128,7 @@ stops-event s (event.Hear n) = refl
 stops-event s (event.Lose n) = refl
 stops-event s (event.Resume n) = refl
 
-stops-seen : (s : Scene) (l : Line) → stops s.world (Ok (line_seen (seen l))) ≡ stops s.world (Ok l)
+stops-seen : (s : Scene) (l : Line) → stops s.world (Ok (seen l)) ≡ line_stops s.world l
 stops-seen s line.Blank = refl
 stops-seen s (line.Event e) = stops-event s e
 stops-seen s (line.Inject n b t) = refl
@@ -118,28 +139,36 @@ stops-seen s (line.Text r) = refl
 stops-seen s line.Marks = refl
 stops-seen s (line.ViewMarks n) = refl
 
-module _ {D : Type 0} (told : D → Option Contents) (failures : D → ℕ) where
+module _ {D : Type 0} (told : D → Option Contents) (failures : D → ℕ) (stops_alone : D → Bool) where
   -- ---- events
 
-  module _ (k : ℕ) (s : Scene) (e : Told) (world : World D) (new : Stage D) (at : new.world ≡ world) (pool : new.pool.pairs ≡ s.pool) (stage : Stage D) (is : IsStage told failures stage s) where
-    happens-so : (x : Shown) → IsPlayed told failures s.world s.kepts k e world x → (next : Scene) × Happens k s e (Some x) next × IsStage told failures new next
-    happens-so x (EventPlayed kept a b) =
-        let o = event_at s.world k kept e in (
-          after s o,
-          IsEvent kept (ap Some a) refl,
-          record { run = more s.world s.kepts o is.run; world = subst (λ c. StandsFor told failures c (after s o).world (after s o).kepts) (sym at) b; pool = pool },
+  module _ (k : ℕ) (s : Scene) (e : Told) (world : World D) (new : Stage D) (at : new.world ≡ world) (pool : new.pool.pairs ≡ s.pool) (stage : Stage D) (is : IsStage told failures stops_alone stage s) where
+    happens-so : (x : Shown) → IsPlayed told failures stops_alone true s.journal s.world s.kepts k e world x → (next : Scene) × Happens k s e (Some x) next × IsStage told failures stops_alone new next
+    happens-so x (EventPlayed kept a r d b) =
+        let next = played k s kept e in (
+          next,
+          IsEvent kept (ap Some a) r (d refl) refl,
+          record {
+            run = more s.world s.kepts (event_at s.world k kept e) is.run;
+            world = subst (λ c. StandsFor told failures stops_alone true next.journal c next.world next.kepts) (sym at) b;
+            pool = pool;
+          },
         )
-    happens-so x (NoRoomPlayed n a b) =
-        let o = overfull_at e in (
-          after s o,
-          HasNoRoom n (sym a) refl refl,
-          record { run = more s.world s.kepts o is.run; world = subst (λ c. StandsFor told failures c (after s o).world (after s o).kepts) (sym at) b; pool = pool },
+    happens-so x (NoRoomPlayed a b) =
+        let next = after s (overfull_at e) s.journal in (
+          next,
+          HasNoRoom (sym a) refl refl,
+          record {
+            run = more s.world s.kepts (overfull_at e) is.run;
+            world = subst (λ c. StandsFor told failures stops_alone true next.journal c next.world next.kepts) (sym at) b;
+            pool = pool;
+          },
         )
 
-    pub steps : (x : Shown) → Comes told failures s.world s.kepts k e world (Ok x) → Steps told failures k s e (Ok x) new
+    pub steps : (x : Shown) → Comes told failures stops_alone true s.journal s.world s.kepts k e world (Ok x) → Steps told failures stops_alone k s e (Ok x) new
     steps x c = (ap unless c.0, happens-so x c.2)
 
-  pub stopped : (k : ℕ) (s : Scene) (e : Told) (bad : WorldBad) (world : World D) (new : Stage D) → Comes told failures s.world s.kepts k e world (Err bad) → Steps told failures k s e (Err (stop_of_world bad)) new
+  pub stopped : (k : ℕ) (s : Scene) (e : Told) (bad : WorldBad) (world : World D) (new : Stage D) → Comes told failures stops_alone true s.journal s.world s.kepts k e world (Err bad) → Steps told failures stops_alone k s e (Err (stop_of_world bad)) new
   stopped k s e world_bad.Unknown world new c = ap unless c.0
   stopped k s e world_bad.NoText world new c = tt
   stopped k s e (world_bad.Full n) world new c = tt
@@ -147,47 +176,47 @@ module _ {D : Type 0} (told : D → Option Contents) (failures : D → ℕ) wher
   stopped k s e world_bad.NoMemory world new c = tt
 
   pub step_stopped : (k : ℕ) (s : Scene) (e : Told) (bad : WorldBad) (world : World D) (new : Stage D) (r : Result Shown Stop) → r ≡ Err (stop_of_world bad)
-      → Comes told failures s.world s.kepts k e world (Err bad) → Steps told failures k s e r new
-  step_stopped k s e bad world new r is c = subst (λ r. Steps told failures k s e r new) (sym is) (stopped k s e bad world new c)
+      → Comes told failures stops_alone true s.journal s.world s.kepts k e world (Err bad) → Steps told failures stops_alone k s e r new
+  step_stopped k s e bad world new r is c = subst (λ r. Steps told failures stops_alone k s e r new) (sym is) (stopped k s e bad world new c)
 
   -- ---- lines that stop
 
-  pub plays-as : (k : ℕ) (s : Scene) (l : Line) (new : Stage D) (r q : Result (Option Shown) Stop) → r ≡ q → Plays told failures k s l q new → Plays told failures k s l r new
-  plays-as k s l new r q is h = subst (λ r. Plays told failures k s l r new) (sym is) h
+  pub plays-as : (k : ℕ) (s : Scene) (l : Line) (new : Stage D) (r q : Result (Option Shown) Stop) → r ≡ q → Plays told failures stops_alone k s l q new → Plays told failures stops_alone k s l r new
+  plays-as k s l new r q is h = subst (λ r. Plays told failures stops_alone k s l r new) (sym is) h
 
-  pub event-fails : (k : ℕ) (s : Scene) (e : Told) (stop : Stop) (new : Stage D) → Steps told failures k s e (Err stop) new → Plays told failures k s (line.Event e) (Err stop) new
+  pub event-fails : (k : ℕ) (s : Scene) (e : Told) (stop : Stop) (new : Stage D) → Steps told failures stops_alone k s e (Err stop) new → Plays told failures stops_alone k s (line.Event e) (Err stop) new
   event-fails k s e (At reason) new h = h
   event-fails k s e Failed new h = tt
 
-  pub inject-fails : (k : ℕ) (s : Scene) (n : Text) (base : ℕ) (text : Text) (stop : Stop) (new : Stage D) → Steps told failures k s (event.Inject n base (reading s.pool text)) (Err stop) new
-      → Plays told failures k s (line.Inject n base text) (Err stop) new
+  pub inject-fails : (k : ℕ) (s : Scene) (n : Text) (base : ℕ) (text : Text) (stop : Stop) (new : Stage D) → Steps told failures stops_alone k s (event.Inject n base (reading s.pool text)) (Err stop) new
+      → Plays told failures stops_alone k s (line.Inject n base text) (Err stop) new
   inject-fails k s n base text (At reason) new h = h
   inject-fails k s n base text Failed new h = tt
 
-  pub put-fails : (k : ℕ) (s : Scene) (key value : Text) (stop : Stop) (new : Stage D) → Puts told failures s (key, value) (Err stop) new → Plays told failures k s (line.Attr key value) (Err stop) new
+  pub put-fails : (k : ℕ) (s : Scene) (key value : Text) (stop : Stop) (new : Stage D) → Puts told failures stops_alone s (key, value) (Err stop) new → Plays told failures stops_alone k s (line.Attr key value) (Err stop) new
   put-fails k s key value (At reason) new h = absurd h
   put-fails k s key value Failed new h = tt
 
   -- ---- lines of bytes
 
   module _ (k : ℕ) (s : Scene) (new : Stage D) (bytes : Result Seen LineBad) where
-    pub unread : (bad : LineBad) → Gives seen (Err bad) bytes → PlaysLine told failures k s (line_read bytes) (Err (stop_of_line bad)) new
+    pub unread : (bad : LineBad) → Gives seen (Err bad) bytes → PlaysLine told failures stops_alone k s (line_read bytes) (Err (stop_of_line bad)) new
     unread line_bad.Utf8 e = ap (λ b. stops s.world (line_read b)) e
     unread line_bad.Syntax e = ap (λ b. stops s.world (line_read b)) e
     unread line_bad.NoMemory e = tt
 
-    pub reads-as : (r q : Result (String Global) Stop) → r ≡ q → PlaysLine told failures k s (line_read bytes) q new → PlaysLine told failures k s (line_read bytes) r new
-    reads-as r q is h = subst (λ r. PlaysLine told failures k s (line_read bytes) r new) (sym is) h
+    pub reads-as : (r q : Result (String Global) Stop) → r ≡ q → PlaysLine told failures stops_alone k s (line_read bytes) q new → PlaysLine told failures stops_alone k s (line_read bytes) r new
+    reads-as r q is h = subst (λ r. PlaysLine told failures stops_alone k s (line_read bytes) r new) (sym is) h
 
     module _ (l : Line) (e : bytes ≡ Ok (seen l)) where
-      stops-as : stops s.world (line_read bytes) ≡ stops s.world (Ok l)
+      stops-as : stops s.world (line_read bytes) ≡ line_stops s.world l
       stops-as = ap (λ b. stops s.world (line_read b)) e ∙ stops-seen s l
 
-      pub line_stops_so : (stop : Stop) → Plays told failures k s l (Err stop) new → PlaysLine told failures k s (line_read bytes) (Err stop) new
+      pub line_stops_so : (stop : Stop) → Plays told failures stops_alone k s l (Err stop) new → PlaysLine told failures stops_alone k s (line_read bytes) (Err stop) new
       line_stops_so (At reason) h = stops-as ∙ h
       line_stops_so Failed h = tt
 
-      pub line_plays : (o : Option Shown) (text : String Global) → Plays told failures k s l (Ok o) new → string_bytes text ≡ written o → PlaysLine told failures k s (line_read bytes) (Ok text) new
+      pub line_plays : (o : Option Shown) (text : String Global) → Plays told failures stops_alone k s l (Ok o) new → string_bytes text ≡ written o → PlaysLine told failures stops_alone k s (line_read bytes) (Ok text) new
       line_plays o text h w = (
         stops-as ∙ h.0,
         (o, h.1.0, subst (λ b. ShowsRead k s (line_read b) o h.1.0) (sym e) (shows-seen k s h.1.0 l o h.1.1), w, h.1.2),
@@ -197,20 +226,20 @@ module _ {D : Type 0} (told : D → Option Contents) (failures : D → ℕ) wher
 
   -- the world stays, and the pool
   module _ (s : Scene) (new : Stage D) where
-    pub view_told : (k : ℕ) (n : Text) (x : Shown) → ShowsClient (shows_view s.world n) (Ok x) → IsStage told failures new s → Plays told failures k s (line.Show n) (Ok (Some x)) new
+    pub view_told : (k : ℕ) (n : Text) (x : Shown) → ShowsClient (shows_view s.world n) (Ok x) → IsStage told failures stops_alone new s → Plays told failures stops_alone k s (line.Show n) (Ok (Some x)) new
     view_told k n x e is = (is-told (s.world.actors n) _ x e, (s, (is-that (s.world.actors n) _ x e, refl), is))
 
-    pub view_untold : (k : ℕ) (n : Text) (bad : WorldBad) → ShowsClient (shows_view s.world n) (Err bad) → Plays told failures k s (line.Show n) (Err (stop_of_world bad)) new
+    pub view_untold : (k : ℕ) (n : Text) (bad : WorldBad) → ShowsClient (shows_view s.world n) (Err bad) → Plays told failures stops_alone k s (line.Show n) (Err (stop_of_world bad)) new
     view_untold k n world_bad.Unknown e = is-nobody (s.world.actors n) _ e
     view_untold k n world_bad.NoText e = tt
     view_untold k n (world_bad.Full c) e = tt
     view_untold k n (world_bad.Store c) e = tt
     view_untold k n world_bad.NoMemory e = tt
 
-    pub marks_told : (k : ℕ) (n : Text) (x : Shown) → ShowsClient (shows_view_marks s.world n) (Ok x) → IsStage told failures new s → Plays told failures k s (line.ViewMarks n) (Ok (Some x)) new
+    pub marks_told : (k : ℕ) (n : Text) (x : Shown) → ShowsClient (shows_view_marks s.world n) (Ok x) → IsStage told failures stops_alone new s → Plays told failures stops_alone k s (line.ViewMarks n) (Ok (Some x)) new
     marks_told k n x e is = (is-told (s.world.actors n) _ x e, (s, (is-that (s.world.actors n) _ x e, refl), is))
 
-    pub marks_untold : (k : ℕ) (n : Text) (bad : WorldBad) → ShowsClient (shows_view_marks s.world n) (Err bad) → Plays told failures k s (line.ViewMarks n) (Err (stop_of_world bad)) new
+    pub marks_untold : (k : ℕ) (n : Text) (bad : WorldBad) → ShowsClient (shows_view_marks s.world n) (Err bad) → Plays told failures stops_alone k s (line.ViewMarks n) (Err (stop_of_world bad)) new
     marks_untold k n world_bad.Unknown e = is-nobody (s.world.actors n) _ e
     marks_untold k n world_bad.NoText e = tt
     marks_untold k n (world_bad.Full c) e = tt
@@ -218,10 +247,10 @@ module _ {D : Type 0} (told : D → Option Contents) (failures : D → ℕ) wher
     marks_untold k n world_bad.NoMemory e = tt
 
   -- a reading of the pad fails only where nothing is said
-  pub reading_fails : (k : ℕ) (s : Scene) (w : WorldState) (ks : Kepts) (said : Shown) (l : Line) (bad : WorldBad) (world : World D) (new : Stage D) → ShowsPad told failures w ks said (Err bad) world
-      → Plays told failures k s l (Err (stop_of_world bad)) new
-  reading_fails k s w ks said l world_bad.Unknown world new h = absurd h
-  reading_fails k s w ks said l world_bad.NoText world new h = tt
-  reading_fails k s w ks said l (world_bad.Full n) world new h = tt
-  reading_fails k s w ks said l (world_bad.Store n) world new h = tt
-  reading_fails k s w ks said l world_bad.NoMemory world new h = tt
+  pub reading_fails : (k : ℕ) (s : Scene) (rs : List Record) (w : WorldState) (ks : Kepts) (said : Shown) (l : Line) (bad : WorldBad) (world : World D) (new : Stage D) → ShowsPad told failures stops_alone true rs w ks said (Err bad) world
+      → Plays told failures stops_alone k s l (Err (stop_of_world bad)) new
+  reading_fails k s rs w ks said l world_bad.Unknown world new h = absurd h
+  reading_fails k s rs w ks said l world_bad.NoText world new h = tt
+  reading_fails k s rs w ks said l (world_bad.Full n) world new h = tt
+  reading_fails k s rs w ks said l (world_bad.Store n) world new h = tt
+  reading_fails k s rs w ks said l world_bad.NoMemory world new h = tt

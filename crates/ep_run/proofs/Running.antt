@@ -1,5 +1,5 @@
 -- What a run writes, of how its script ended.
-use Rattle.std.proofs.Common.{◌≡◌, ℕ, ◌⊎◌, List, [], ◌∷◌, Option, Some, None, refl, sym, ap, ◌∙◌, subst, arith, append-nil, inl, inr, lit<}
+use Rattle.std.proofs.Common.{◌≡◌, ℕ, ◌⊎◌, Bool, List, [], ◌∷◌, Option, Some, None, refl, sym, ap, ◌∙◌, subst, arith, append-nil, inl, inr, lit<}
 use Rattle.std.specs.Prelude.{Result, Ok, Err, IfSome, IsSome, IsErrOf, Contains, ◌↔◌}
 use Rattle.ep_units.specs.Text.{Text}
 use Rattle.ep_outside.specs.Disk.{Contents, settled}
@@ -79,21 +79,21 @@ no-end W Failed (inr k) = omega (arith, k)
 pub holds_nothing : (o : Option Contents) (bytes : List ℕ) → o ≡ Some (settled bytes) → bytes ≡ [] → Holds o []
 holds_nothing o bytes e n = subst (λ o. Holds o []) (sym (e ∙ ap (λ b. Some (settled b)) n)) (record { bytes = refl; records = tt })
 
-module _ {D : Type 0} (told : D → Option Contents) (failures : D → ℕ) (id : Text) (held now : Option (List ℕ)) where
+module _ {D : Type 0} (told : D → Option Contents) (failures : D → ℕ) (stops_alone : D → Bool) (id : Text) (held now : Option (List ℕ)) where
   -- of one script
-  writes : (script : List ℕ) (r : Result (Option (World D)) PlayBad) → EndsLines told failures (opening id) (reads_of script) held now r → IsEnd (code_of r)
+  writes : (script : List ℕ) (r : Result (Option (World D)) PlayBad) → EndsLines told failures stops_alone (opening id) (reads_of script) held now r → IsEnd (code_of r)
       → (out : List ℕ) × IsTranscript id script out (code_of r) × Takes held now out
   writes script (Ok (Some w)) h k = (h.1.0, (h.0, h.1.1), h.1.2)
   writes script (Ok None) h k = (h.1.0, (h.0, h.1.1), h.1.2)
   writes script (Err bad) h k = absurd (no-end (World D) bad k)
 
-  part : (script : List ℕ) (r : Result (Option (World D)) PlayBad) → EndsLines told failures (opening id) (reads_of script) held now r
+  part : (script : List ℕ) (r : Result (Option (World D)) PlayBad) → EndsLines told failures stops_alone (opening id) (reads_of script) held now r
       → (out : List ℕ) × (code : ℕ) × IsTranscript id script out code × TakesPart held now out
   part script (Ok (Some w)) h = (h.1.0, 0, (h.0, h.1.1), takes_part held now h.1.0 h.1.2)
   part script (Ok None) h = (h.1.0, 3, (h.0, h.1.1), takes_part held now h.1.0 h.1.2)
   part script (Err bad) h = (h.0, h.1, (h.2, h.3), h.4)
 
-  made : (script : List ℕ) (w : World D) → EndsLines told failures (opening id) (reads_of script) held now (Ok (Some w)) → IsMade told failures id script held now w
+  made : (script : List ℕ) (w : World D) → EndsLines told failures stops_alone (opening id) (reads_of script) held now (Ok (Some w)) → IsMade told failures stops_alone id script held now w
   made script w h = record {
     out = h.1.0;
     end = h.0;
@@ -105,29 +105,29 @@ module _ {D : Type 0} (told : D → Option Contents) (failures : D → ℕ) (id 
   }
 
   -- of what the source had left
-  pub ends_writes : (left : Option (List ℕ)) (r : Result (Option (World D)) PlayBad) → EndsScript told failures (opening id) left held now r → IsEnd (code_of r) → Writes id left held now (code_of r)
+  pub ends_writes : (left : Option (List ℕ)) (r : Result (Option (World D)) PlayBad) → EndsScript told failures stops_alone (opening id) left held now r → IsEnd (code_of r) → Writes id left held now (code_of r)
   ends_writes (Some script) r h k = writes script r h k
   ends_writes None r h k = let x = writes h.0 r h.1 k in (h.0, x.0, x.1, x.2)
 
-  pub ends_part : (left : Option (List ℕ)) (r : Result (Option (World D)) PlayBad) → EndsScript told failures (opening id) left held now r → WritesPart id left held now
+  pub ends_part : (left : Option (List ℕ)) (r : Result (Option (World D)) PlayBad) → EndsScript told failures stops_alone (opening id) left held now r → WritesPart id left held now
   ends_part (Some script) r h = part script r h
   ends_part None r h = let x = part h.0 r h.1 in (h.0, x.0, x.1, x.2, x.3)
 
-  pub ends_made : (left : Option (List ℕ)) (r : Result (Option (World D)) PlayBad) → EndsScript told failures (opening id) left held now r → IfSome (world_of r) (IsMadeOf told failures id left held now)
+  pub ends_made : (left : Option (List ℕ)) (r : Result (Option (World D)) PlayBad) → EndsScript told failures stops_alone (opening id) left held now r → IfSome (world_of r) (IsMadeOf told failures stops_alone id left held now)
   ends_made (Some script) (Ok (Some w)) h = made script w h
   ends_made None (Ok (Some w)) h = (h.0, made h.0 w h.1)
   ends_made left (Ok None) h = tt
   ends_made left (Err bad) h = tt
 
 -- nothing was played
-pub nothing_played : {D : Type 0} (told : D → Option Contents) (failures : D → ℕ) (id : Text) (left held : Option (List ℕ)) (r : Result (Option (World D)) PlayBad) (bad : PlayBad)
-    → r ≡ Err bad → EndsScript told failures (opening id) left held held r
-nothing_played told failures id (Some script) held r bad is =
+pub nothing_played : {D : Type 0} (told : D → Option Contents) (failures : D → ℕ) (stops_alone : D → Bool) (id : Text) (left held : Option (List ℕ)) (r : Result (Option (World D)) PlayBad) (bad : PlayBad)
+    → r ≡ Err bad → EndsScript told failures stops_alone (opening id) left held held r
+nothing_played told failures stops_alone id (Some script) held r bad is =
     let x = some 1 (opening id) (reads_of script) in
-    subst (λ r. EndsScript told failures (opening id) (Some script) held held r) (sym is) (x.0, x.1, x.2, x.3, stopped held held x.0 x.0 (started held x.0))
-nothing_played told failures id None held r bad is =
+    subst (λ r. EndsScript told failures stops_alone (opening id) (Some script) held held r) (sym is) (x.0, x.1, x.2, x.3, stopped held held x.0 x.0 (started held x.0))
+nothing_played told failures stops_alone id None held r bad is =
     let x = some 1 (opening id) (reads_of []) in
-    subst (λ r. EndsScript told failures (opening id) None held held r) (sym is) ([], (x.0, x.1, x.2, x.3, stopped held held x.0 x.0 (started held x.0)))
+    subst (λ r. EndsScript told failures stops_alone (opening id) None held held r) (sym is) ([], (x.0, x.1, x.2, x.3, stopped held held x.0 x.0 (started held x.0)))
 
 -- ---- of the words
 

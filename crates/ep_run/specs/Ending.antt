@@ -1,8 +1,8 @@
--- How the lines of a script end.
+-- Working words of private contracts: how the lines of a script end.
 use Rattle.std.specs.Prelude.{ℕ, Bool, true, false, List, Option, Some, None, Result, Ok, Err}
 use Rattle.ep_outside.specs.Disk.{Contents}
 use Rattle.ep_outside.specs.Outside.{Takes, TakesPart}
-use Rattle.ep_script.specs.declared.line.Line.{Line}
+use Rattle.ep_script.specs.Seen.{Seen}
 use Rattle.ep_world.specs.Standing.{IsRun, StandsFor}
 use Rattle.ep_world.specs.declared.world.World.{World}
 use Rattle.ep_run.specs.Play.{Scene, Transcript, reads_of}
@@ -11,14 +11,14 @@ use Rattle.ep_run.specs.declared.play.PlayBad.TheVariants.{SourceFault, SinkFaul
 use Rattle.ep_run.specs.declared.reason.Reason.{Reason}
 
 -- a transcript of them was written, that has this status
-abbrev pub WritesLines : Scene → List (Result Line Reason) → Option (List ℕ) → Option (List ℕ) → ℕ → Scene → Type 0
+abbrev pub WritesLines : Scene → List (Result Seen Reason) → Option (List ℕ) → Option (List ℕ) → ℕ → Scene → Type 0
 WritesLines s reads held now status end = (out : List ℕ) × Transcript 1 s reads out status end × Takes held now out
 
-module _ {D : Type 0} (told : D → Option Contents) (failures : D → ℕ) where
+module _ {D : Type 0} (told : D → Option Contents) (failures : D → ℕ) (stops_alone : D → Bool) where
   -- all were played, and the world is this one; or one of them can't be; or a beginning of a transcript was written
-  abbrev pub EndsLines : Scene → List (Result Line Reason) → Option (List ℕ) → Option (List ℕ) → Result (Option (World D)) PlayBad → Type 0
+  abbrev pub EndsLines : Scene → List (Result Seen Reason) → Option (List ℕ) → Option (List ℕ) → Result (Option (World D)) PlayBad → Type 0
   EndsLines s reads held now (Ok (Some world)) =
-      (end : Scene) × WritesLines s reads held now 0 end × IsRun end.world end.kepts × StandsFor told failures world end.world end.kepts
+      (end : Scene) × WritesLines s reads held now 0 end × IsRun end.world end.kepts × StandsFor told failures stops_alone true end.journal world end.world end.kepts
   EndsLines s reads held now (Ok None) = (end : Scene) × WritesLines s reads held now 3 end
   EndsLines s reads held now (Err bad) = (out : List ℕ) × (status : ℕ) × (end : Scene) × Transcript 1 s reads out status end × TakesPart held now out
 

@@ -1,15 +1,18 @@
 -- What a script may write, and the status that it ends with.
-use Rattle.std.specs.Prelude.{◌≡◌, ℕ, ◌+◌, Bool, true, false, if◌then◌else◌, List, [], ◌∷◌, ◌++◌, codes, Option, Some, None, IsSome, MatchOption, Result, Ok, Err}
+use Rattle.std.specs.Prelude.{◌≡◌, ℕ, ◌+◌, Bool, true, false, ◌==◌, ◌&&◌, ◌||◌, nat_le, is_none, if◌then◌else◌, List, [], ◌∷◌, ◌++◌, codes, Option, Some, None, IsSome, MatchOption, Result, Ok, Err}
 use Rattle.std.specs.Fmt.{decimal}
 use Rattle.ep_units.specs.Text.{Text}
 use Rattle.ep_attr.specs.AttrMap.{Pair}
 use Rattle.ep_pool.specs.Pool.{put, number_of}
 use Rattle.ep_csread.specs.Reading.{reading}
+use Rattle.ep_outside.specs.Crash.{filling}
 use Rattle.ep_outside.specs.declared.image.Image.TheVariants.{Old}
 use Rattle.ep_outside.specs.declared.limits.Limits.{Limits}
-use Rattle.ep_history.specs.declared.pad_bad.PadBad.TheVariants.{JournalFull}
+use Rattle.ep_history.specs.declared.record.Record.{Record}
 use Rattle.ep_schedule.specs.World.{WorldState, Event, start}
 use Rattle.ep_schedule.specs.Kepts.{Kepts, nobodies}
+use Rattle.ep_schedule.specs.Headline.{next_up}
+use Rattle.ep_pad_file.specs.Stopping.{gate_behind}
 use Rattle.ep_event.specs.declared.event.Event.{Event as Told}
 use Rattle.ep_event.specs.declared.event.Event.TheVariants as event
 use Rattle.ep_event.specs.declared.shown.Shown.{Shown}
@@ -17,6 +20,8 @@ use Rattle.ep_event.specs.declared.shown.Shown.TheVariants as shown
 use Rattle.ep_script.specs.Lines.{Row, rows_of, said}
 use Rattle.ep_script.specs.Script.{is_long, width}
 use Rattle.ep_script.specs.Line.{line_of}
+use Rattle.ep_script.specs.Left.{Left}
+use Rattle.ep_script.specs.Left as remains
 use Rattle.ep_script.specs.Seen.{Seen, whole, stopped}
 use Rattle.ep_script.specs.declared.line.Line.{Line}
 use Rattle.ep_script.specs.declared.line.Line.TheVariants as line
@@ -25,17 +30,21 @@ use Rattle.ep_script.specs.declared.line.LineBad.TheVariants as bad
 use Rattle.ep_print.specs.Printed.{printed}
 use Rattle.ep_world.specs.Events.{event_at, happened, kept_happened, is_client, is_guest, is_known}
 use Rattle.ep_world.specs.Shows.{shows, shows_head, shows_marks, shows_text, shows_view, shows_view_marks}
-use Rattle.ep_world.specs.Standing.{no_room, overfull_at}
+use Rattle.ep_world.specs.Journal.{Decides, begun, full_at, full_by, journal_after, record_taken}
+use Rattle.ep_world.specs.Standing.{overfull_at}
 use Rattle.ep_run.specs.declared.reason.Reason.{Reason}
 use Rattle.ep_run.specs.declared.reason.Reason.TheVariants.{Utf8, Syntax, Long, Unknown}
 
 -- ---- the lines of a script
 
--- a line, of what is seen of it. What a stop leaves of the file is nothing to the rules: of the disk they know only
--- whether it kept the record.
+-- a crash that comes into the take of a name, after so many device calls. What it leaves of the file is said beside it.
+abbrev pub stop_at : Text → ℕ → Told
+stop_at n calls = event.Stop (Some (record { name = n; calls = calls; image = Old }))
+
+-- a line, of what is seen of it
 abbrev pub line_seen : Seen → Line
 line_seen (whole l) = l
-line_seen (stopped n calls left) = line.Event (event.Stop (Some (record { name = n; calls = calls; image = Old })))
+line_seen (stopped n calls left) = line.Event (stop_at n calls)
 
 -- why bytes are no line; a definition never says that memory ran out
 abbrev pub reason_of : LineBad → Reason
@@ -43,38 +52,43 @@ reason_of bad.Utf8 = Utf8
 reason_of bad.Syntax = Syntax
 reason_of bad.NoMemory = Syntax
 
-abbrev pub line_read : Result Seen LineBad → Result Line Reason
-line_read (Ok seen) = Ok (line_seen seen)
+abbrev pub line_read : Result Seen LineBad → Result Seen Reason
+line_read (Ok seen) = Ok seen
 line_read (Err bad) = Err (reason_of bad)
 
 -- the line that begins at a place: whether it is too long is asked first
-abbrev pub read_at : ℕ → Row → Result Line Reason
+abbrev pub read_at : ℕ → Row → Result Seen Reason
 read_at place row = if is_long place row then Err Long else line_read (line_of (said row))
 
 -- what each line is, of those that begin at a place
-abbrev pub reads_at : ℕ → List Row → List (Result Line Reason)
+abbrev pub reads_at : ℕ → List Row → List (Result Seen Reason)
 reads_at place [] = []
 reads_at place (row ∷ rows) = read_at place row ∷ reads_at (place + width row) rows
 
 -- what each line of a script is
-abbrev pub reads_of : List ℕ → List (Result Line Reason)
+abbrev pub reads_of : List ℕ → List (Result Seen Reason)
 reads_of script = reads_at 0 (rows_of script)
 
 -- ---- what stands between two lines
 
--- the world of the rules, its clients as they are kept, and the script's pool
+-- the pad's journal, the world of the rules, its clients as they are kept, and the script's pool
 pub record Scene : Type 0 where
+  pub journal : List Record
   pub world : WorldState
   pub kepts : Kepts
   pub pool : List Pair
 
--- an event happens, where there is one
-abbrev pub after : Scene → Option Event → Scene
-after s e = record { world = happened s.world e; kepts = kept_happened s.world s.kepts e; pool = s.pool }
+-- an event happens, where there is one, and this is the journal then
+abbrev pub after : Scene → Option Event → List Record → Scene
+after s e journal = record { journal = journal; world = happened s.world e; kepts = kept_happened s.world s.kepts e; pool = s.pool }
+
+-- the event of line k, which is recorded
+abbrev pub played : ℕ → Scene → Bool → Told → Scene
+played k s kept e = after s (event_at s.world k kept e) (journal_after s.journal s.world k kept e)
 
 -- the pair goes to the pool's end, where it isn't there
 abbrev pub with_pair : Scene → Pair → Scene
-with_pair s pair = record { world = s.world; kepts = s.kepts; pool = put s.pool pair }
+with_pair s pair = record { journal = s.journal; world = s.world; kepts = s.kepts; pool = put s.pool pair }
 
 -- what the pad of a script is held to
 abbrev pub play_limits : Limits
@@ -82,7 +96,7 @@ play_limits = record { live = 500; logins = 1000000; units = 1000000; journal = 
 
 -- what a script begins with: no pad of this id yet, nobody, and no pair
 abbrev pub opening : Text → Scene
-opening id = record { world = start play_limits id; kepts = nobodies; pool = [] }
+opening id = record { journal = begun; world = start play_limits id; kepts = nobodies; pool = [] }
 
 -- ---- why a line isn't played
 
@@ -99,17 +113,31 @@ line_stops w (line.ViewMarks n) = unless (is_client (w.actors n))
 line_stops w l = None
 
 -- nor is what is no line
-abbrev pub stops : WorldState → Result Line Reason → Option Reason
-stops w (Ok l) = line_stops w l
+abbrev pub stops : WorldState → Result Seen Reason → Option Reason
+stops w (Ok seen) = line_stops w (line_seen seen)
 stops w (Err reason) = Some reason
 
 -- ---- what a line shows
 
--- Line k is an event, at the moment of k milliseconds: it happens, and is shown. Of a stop the disk decides whether the
--- record of the take that it came into is kept. Or the journal has no room for the record, and says so.
+-- Line k is an event, at the moment of k milliseconds: it happens, and is shown. Or the journal has no room for its record,
+-- and says so. Of a crash within a take the image that is asked for decides whether the record is kept.
 pub data Happens (k : ℕ) (s : Scene) (e : Told) (o : Option Shown) (next : Scene) : Type 0 where
-  IsEvent : (kept : Bool) → o ≡ Some (shows s.world k kept e) → next ≡ after s (event_at s.world k kept e) → Happens k s e o next
-  HasNoRoom : (bytes : ℕ) → o ≡ no_room e (JournalFull bytes) → IsSome o → next ≡ after s (overfull_at e) → Happens k s e o next
+  IsEvent : (kept : Bool) → o ≡ Some (shows s.world k kept e) → full_at s.journal s.world k e ≡ None → Decides s.journal s.world k e kept → next ≡ played k s kept e
+      → Happens k s e o next
+  HasNoRoom : o ≡ full_at s.journal s.world k e → IsSome o → next ≡ after s (overfull_at e) s.journal → Happens k s e o next
+
+-- the byte 01, written at the gate and not synced, is in what the crash leaves
+abbrev pub leaves_gate : ℕ → Left → Bool
+leaves_gate gate remains.old = false
+leaves_gate gate remains.new = true
+leaves_gate gate (remains.torn length fill) = filling fill gate == 1
+
+-- what a crash leaves keeps the record of the take that it came into: where there was room for it, and the take made four
+-- device calls; or three, of which the last writes the gate
+abbrev pub keeps_left : Scene → ℕ → Text → ℕ → Left → Bool
+keeps_left s k n calls left =
+    (nat_le 4 calls || (calls == 3 && leaves_gate (gate_behind s.journal) left))
+    && is_none (full_by s.journal s.world.pad (record_taken s.world.pad k (next_up (s.world.actors n))))
 
 -- what line k may show, and what stands behind it. A guest's text is read with the script's pool as it is now.
 abbrev pub Shows : ℕ → Scene → Line → Option Shown → Scene → Type 0
@@ -123,8 +151,15 @@ Shows k s (line.Text rev) o next = (o ≡ Some (shows_text s.world.pad rev)) × 
 Shows k s line.Marks o next = (o ≡ Some (shows_marks s.world.pad)) × (next ≡ s)
 Shows k s (line.ViewMarks n) o next = (o ≡ shows_view_marks s.world n) × (next ≡ s)
 
-abbrev pub ShowsRead : ℕ → Scene → Result Line Reason → Option Shown → Scene → Type 0
-ShowsRead k s (Ok l) o next = Shows k s l o next
+-- so does a line as it is seen
+abbrev pub ShowsSeen : ℕ → Scene → Seen → Option Shown → Scene → Type 0
+ShowsSeen k s (whole l) o next = Shows k s l o next
+ShowsSeen k s (stopped n calls left) o next =
+    let kept = keeps_left s k n calls left in
+    (o ≡ Some (shows s.world k kept (stop_at n calls))) × (next ≡ played k s kept (stop_at n calls))
+
+abbrev pub ShowsRead : ℕ → Scene → Result Seen Reason → Option Shown → Scene → Type 0
+ShowsRead k s (Ok seen) o next = ShowsSeen k s seen o next
 ShowsRead k s (Err reason) o next = ⊥
 
 -- what is shown is written, as a line of output
@@ -146,7 +181,7 @@ error_line k reason = codes "error line " ++ decimal k ++ reason_text reason
 
 -- A transcript of lines, the first of which has the number k: each writes what it may show, up to the first that isn't
 -- played, of which the reason is written. The status is 0, or 3 where there is such a line. What stands then is `end`.
-abbrev pub Transcript : ℕ → Scene → List (Result Line Reason) → List ℕ → ℕ → Scene → Type 0
+abbrev pub Transcript : ℕ → Scene → List (Result Seen Reason) → List ℕ → ℕ → Scene → Type 0
 Transcript k s [] out status end = (out ≡ []) × (status ≡ 0) × (end ≡ s)
 Transcript k s (r ∷ rs) out status end = MatchOption (stops s.world r)
     ((o : Option Shown) × (next : Scene) × (rest : List ℕ) × ShowsRead k s r o next × (out ≡ written o ++ rest) × Transcript (k + 1) next rs rest status end)

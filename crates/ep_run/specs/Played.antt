@@ -1,5 +1,5 @@
--- How one line is played.
-use Rattle.std.specs.Prelude.{◌≡◌, ℕ, Some, None, Option, Result, Ok, Err, String}
+-- Working words of private contracts: how one line is played.
+use Rattle.std.specs.Prelude.{◌≡◌, ℕ, Bool, true, Some, None, Option, Result, Ok, Err, String}
 use Rattle.std.specs.declared.alloc.Global.{Global}
 use Rattle.std.specs.String.{string_bytes}
 use Rattle.ep_attr.specs.AttrMap.{Pair}
@@ -10,6 +10,7 @@ use Rattle.ep_event.specs.declared.shown.Shown.{Shown}
 use Rattle.ep_event.specs.declared.shown.Shown.TheVariants as shown
 use Rattle.ep_script.specs.declared.line.Line.{Line}
 use Rattle.ep_script.specs.Line.{line_of}
+use Rattle.ep_script.specs.Seen.{Seen}
 use Rattle.ep_script.specs.declared.script.ScriptLine.{ScriptLine}
 use Rattle.ep_script.specs.declared.script.ScriptLine.TheVariants.{Text, Long}
 use Rattle.ep_world.specs.Events.{is_known}
@@ -22,15 +23,15 @@ use Rattle.ep_run.specs.declared.stage.Stop.{Stop}
 use Rattle.ep_run.specs.declared.stage.Stop.TheVariants.{At, Failed}
 
 -- what a line is that was cut off a script
-abbrev pub cut_read : ScriptLine → Result Line Reason
+abbrev pub cut_read : ScriptLine → Result Seen Reason
 cut_read (Text bytes) = line_read (line_of bytes.items)
 cut_read Long = Err reason.Long
 
-module _ {D : Type 0} (told : D → Option Contents) (failures : D → ℕ) where
+module _ {D : Type 0} (told : D → Option Contents) (failures : D → ℕ) (stops_alone : D → Bool) where
   -- the world and the pool in code stand for these, to which some events lead
   pub record IsStage (stage : Stage D) (s : Scene) : Type 0 where
     pub run : IsRun s.world s.kepts
-    pub world : StandsFor told failures stage.world s.world s.kepts
+    pub world : StandsFor told failures stops_alone true s.journal stage.world s.world s.kepts
     pub pool : stage.pool.pairs ≡ s.pool
 
   -- there is what may be shown of an event, and the stage stands for what is there then; or it can't happen
@@ -52,7 +53,7 @@ module _ {D : Type 0} (told : D → Option Contents) (failures : D → ℕ) wher
   Plays k s l (Err Failed) new = Unit {0}
 
   -- and what it may show is written
-  abbrev pub PlaysLine : ℕ → Scene → Result Line Reason → Result (String Global) Stop → Stage D → Type 0
+  abbrev pub PlaysLine : ℕ → Scene → Result Seen Reason → Result (String Global) Stop → Stage D → Type 0
   PlaysLine k s r (Ok text) new =
       (stops s.world r ≡ None)
       × ((o : Option Shown) × (next : Scene) × ShowsRead k s r o next × (string_bytes text ≡ written o) × IsStage new next)

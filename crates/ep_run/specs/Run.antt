@@ -1,5 +1,5 @@
 -- What a run of the program promises.
-use Rattle.std.specs.Prelude.{ℕ, ◌≡◌, ◌⊎◌, List, [], ◌∷◌, codes, Option, Some, None}
+use Rattle.std.specs.Prelude.{ℕ, ◌≡◌, ◌⊎◌, Bool, true, List, [], ◌∷◌, codes, Option, Some, None}
 use Rattle.ep_units.specs.Text.{Text}
 use Rattle.ep_outside.specs.Disk.{Contents}
 use Rattle.ep_outside.specs.Outside.{Takes, TakesPart}
@@ -75,7 +75,7 @@ WritesPart id None held now = (script : List ℕ) × (out : List ℕ) × (code :
 
 -- ---- the world that a script made
 
-module _ {D : Type 0} (told : D → Option Contents) (failures : D → ℕ) where
+module _ {D : Type 0} (told : D → Option Contents) (failures : D → ℕ) (stops_alone : D → Bool) where
   -- it stands for the world of the rules in which a transcript of the script that was written ends, and of that world and
   -- its clients the schedule theorem speaks
   pub record IsMade (id : Text) (script : List ℕ) (held now : Option (List ℕ)) (world : World D) : Type 0 where
@@ -84,7 +84,7 @@ module _ {D : Type 0} (told : D → Option Contents) (failures : D → ℕ) wher
     pub transcript : TranscriptOf id script out 0 end
     pub written : Takes held now out
     pub run : IsRun end.world end.kepts
-    pub stands : StandsFor told failures world end.world end.kepts
+    pub stands : StandsFor told failures stops_alone true end.journal world end.world end.kepts
     pub scheduled : IsScheduled end.world end.kepts
 
   -- of a source that doesn't tell, some script's

@@ -1,4 +1,4 @@
--- Which refusals end a script, at a line or before its end.
+-- Working words of private contracts: which refusals end a script, at a line or before its end.
 use Rattle.ep_run.specs.declared.play.PlayBad.{PlayBad}
 use Rattle.ep_run.specs.declared.play.PlayBad.TheVariants as play
 use Rattle.ep_run.specs.declared.reason.Reason.TheVariants as reason

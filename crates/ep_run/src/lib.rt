@@ -5,6 +5,7 @@
 #![tactic(auto)]
 
 mod judge;
+mod laws;
 mod making;
 mod play;
 mod reason;
@@ -15,5 +16,6 @@ mod status;
 mod top;
 mod writing;
 
+pub use laws::one_transcript;
 pub use status::Status;
 pub use top::run;

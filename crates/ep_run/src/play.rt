@@ -115,8 +115,8 @@ fn play_lines<D: Crash + Drop, S: Source, K: Sink>(
     source: &mut S,
     sink: &mut K,
 ) -> Result<bool, PlayBad>
-    ensures ends { (s : Scene) → IsStage D.told D.failures stage.old s
-        → EndsScript D.told D.failures s (S.left source.old) (K.held sink.old) (K.held sink.new) (with_world stage.new.world result) }
+    ensures ends { (s : Scene) → IsStage D.told D.failures D.stops_alone stage.old s
+        → EndsScript D.told D.failures D.stops_alone s (S.left source.old) (K.held sink.old) (K.held sink.new) (with_world stage.new.world result) }
     ensures read { IfOk result (λ all. all ≡ true → IsAtEnd (S.left source.new)) }
     ensures source_fault { HasCause (S.failures source.old) (S.failures source.new) (S.is_steady source.old) (S.is_steady source.new) (IsErrOf result PlayBad.SourceFault) }
     ensures sink_fault { IsErrOf result PlayBad.SinkFault → HasRisen (K.failures sink.old) (K.failures sink.new) }
@@ -147,7 +147,7 @@ fn play_script<S: Source, K: Sink>(
     sink: &mut K,
     id: PadId,
 ) -> Result<Option<World<MemDisk>>, PlayBad>
-    ensures ends { EndsScript ⟦<MemDisk as Disk>⟧.told ⟦<MemDisk as Device>⟧.failures (opening id) (S.left source.old) (K.held sink.old) (K.held sink.new) result }
+    ensures ends { EndsScript ⟦<MemDisk as Disk>⟧.told ⟦<MemDisk as Device>⟧.failures ⟦<MemDisk as Disk>⟧.stops_alone (opening id) (S.left source.old) (K.held sink.old) (K.held sink.new) result }
     ensures read { IfOk result (λ world. IsSome world → IsAtEnd (S.left source.new)) }
     ensures source_fault { HasCause (S.failures source.old) (S.failures source.new) (S.is_steady source.old) (S.is_steady source.new) (IsErrOf result PlayBad.SourceFault) }
     ensures sink_fault { IsErrOf result PlayBad.SinkFault → HasRisen (K.failures sink.old) (K.failures sink.new) }
@@ -201,7 +201,7 @@ pub fn play<S: Source, K: Sink>(alloc: Global, source: &mut S, sink: &mut K, id:
     // The world is there just where all of it was played; and of it the schedule theorem speaks.
     ensures world { IsSome result.world ↔ (result.status.code ≡ 0) }
     ensures headline { IfSome result.world
-        (IsMadeOf ⟦<MemDisk as Disk>⟧.told ⟦<MemDisk as Device>⟧.failures id (S.left source.old) (K.held sink.old) (K.held sink.new)) }
+        (IsMadeOf ⟦<MemDisk as Disk>⟧.told ⟦<MemDisk as Device>⟧.failures ⟦<MemDisk as Disk>⟧.stops_alone id (S.left source.old) (K.held sink.old) (K.held sink.new)) }
 
     // Each fault has its cause.
     ensures source_fault { result.status.code ≡ 4 → HasRisen (S.failures source.old) (S.failures source.new) }

@@ -1,6 +1,6 @@
 //! A script that is being played, line by line.
 
-ghost use Rattle.std.specs.Prelude.{◌≡◌, [], IfOk};
+ghost use Rattle.std.specs.Prelude.{◌≡◌, [], true, IfOk};
 ghost use Rattle.ep_pad_file.specs.Standing.{Holds};
 ghost use Rattle.ep_csread.specs.Reading.{reading};
 ghost use Rattle.ep_script.specs.Line.{line_of};
@@ -96,7 +96,7 @@ impl<D: Crash> Stage<D> {
     pub fn new(alloc: Global, disk: D, id: PadId) -> Result<Stage<D>, WorldBad>
     where
         D: Drop,
-        ensures { Holds (D.told disk) [] → IfOk result (λ stage. IsStage D.told D.failures stage (opening id)) }
+        ensures { Holds (D.told disk) [] → D.stops_alone disk ≡ true → IfOk result (λ stage. IsStage D.told D.failures D.stops_alone stage (opening id)) }
     {
         let world = World::new(alloc, disk, LIMITS, id)?;
         let pool = Pool::new(alloc);
@@ -105,7 +105,7 @@ impl<D: Crash> Stage<D> {
 
     /// Plays line k, at the moment k, and answers what it writes.
     pub fn play_cut(&mut self, alloc: Global, k: u64, line: ScriptLine) -> Result<String, Stop>
-        ensures { (s : Scene) → IsStage D.told D.failures self.old s → PlaysLine D.told D.failures k s (cut_read line) result self.new }
+        ensures { (s : Scene) → IsStage D.told D.failures D.stops_alone self.old s → PlaysLine D.told D.failures D.stops_alone k s (cut_read line) result self.new }
     {
         match line {
             ScriptLine::Text(bytes) => self.play_line(alloc, k, &bytes),
@@ -115,7 +115,7 @@ impl<D: Crash> Stage<D> {
 
     /// Plays the bytes of line k.
     fn play_line(&mut self, alloc: Global, k: u64, bytes: &[u8]) -> Result<String, Stop>
-        ensures { (s : Scene) → IsStage D.told D.failures self.old s → PlaysLine D.told D.failures k s (line_read (line_of bytes.now)) result self.new }
+        ensures { (s : Scene) → IsStage D.told D.failures D.stops_alone self.old s → PlaysLine D.told D.failures D.stops_alone k s (line_read (line_of bytes.now)) result self.new }
     {
         let line = read_line(alloc, bytes)?;
         match self.play(alloc, k, line)? {
@@ -127,7 +127,7 @@ impl<D: Crash> Stage<D> {
     /// Plays line k, and answers what is to be shown of it.
     fn play(&mut self, alloc: Global, k: u64, line: Line) -> Result<Option<Shown>, Stop>
         requires { AreTexts line }
-        ensures { (s : Scene) → IsStage D.told D.failures self.old s → Plays D.told D.failures k s line result self.new }
+        ensures { (s : Scene) → IsStage D.told D.failures D.stops_alone self.old s → Plays D.told D.failures D.stops_alone k s line result self.new }
     {
         match line {
             Line::Blank => Ok(None),
@@ -146,7 +146,7 @@ impl<D: Crash> Stage<D> {
 
     /// An event happens.
     fn step(&mut self, k: u64, event: Event) -> Result<Shown, Stop>
-        ensures { (s : Scene) → IsStage D.told D.failures self.old s → Steps D.told D.failures k s event result self.new }
+        ensures { (s : Scene) → IsStage D.told D.failures D.stops_alone self.old s → Steps D.told D.failures D.stops_alone k s event result self.new }
     {
         Ok(self.world.step(k, event)?)
     }
@@ -161,8 +161,8 @@ impl<D: Crash> Stage<D> {
         text: &Units,
     ) -> Result<Shown, Stop>
         requires { IsText text.now }
-        ensures { (s : Scene) → IsStage D.told D.failures self.old s
-            → Steps D.told D.failures k s (event.Inject name base (reading s.pool text.now)) result self.new }
+        ensures { (s : Scene) → IsStage D.told D.failures D.stops_alone self.old s
+            → Steps D.told D.failures D.stops_alone k s (event.Inject name base (reading s.pool text.now)) result self.new }
     {
         let change = read_change(alloc, text, &self.pool)?;
         self.step(k, Event::Inject { name, base, change })
@@ -170,7 +170,7 @@ impl<D: Crash> Stage<D> {
 
     /// Puts a pair into the script's pool.
     fn put(&mut self, key: Units, value: Units) -> Result<Shown, Stop>
-        ensures { (s : Scene) → IsStage D.told D.failures self.old s → Puts D.told D.failures s (key, value) result self.new }
+        ensures { (s : Scene) → IsStage D.told D.failures D.stops_alone self.old s → Puts D.told D.failures D.stops_alone s (key, value) result self.new }
     {
         self.pool.reserve(1)?;
         if !self.pool.can_number_more() {

@@ -1,4 +1,4 @@
--- What the sessions of an opening hold in memory.
+-- Working words of private contracts: what the sessions of an opening hold in memory.
 use Rattle.std.specs.Prelude.{◌≡◌, ◌-◌, min, vec_len, vec_capacity}
 use Rattle.ep_seats.specs.Kept.{KeptSeats}
 use Rattle.ep_seats.specs.Places.{taken_from, IsSingle}

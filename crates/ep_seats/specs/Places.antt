@@ -1,4 +1,4 @@
--- Places by author and by number.
+-- Working words of private contracts: places by author and by number.
 use Rattle.std.specs.Prelude.{◌≡◌, ℕ, suc, Bool, false, ◌==◌, if◌then◌else◌, List, [], ◌∷◌, Option, Some, None}
 use Rattle.ep_units.specs.Text.{Text, text_eq}
 use Rattle.ep_units.specs.declared.session.Session.{Session}

@@ -1,4 +1,4 @@
--- Working words of a private contract: a piece of history that is to be shown in steps.
+-- Working words of private contracts: a piece of history that is to be shown in steps.
 use Rattle.std.specs.Prelude.{◌≡◌, ◌⊎◌, List, Some, None, Result, Ok, Err}
 use Rattle.ep_cs.specs.Change.{Change}
 use Rattle.ep_cs.specs.Doc.{Doc}

@@ -8,6 +8,3 @@ mod shown_line;
 mod shown_shelf;
 
 pub use shown_shelf::ShownShelf;
-
-#[cfg(test)]
-mod tests;

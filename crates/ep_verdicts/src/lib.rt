@@ -15,6 +15,3 @@ pub use laws::shelves_have_one_text;
 pub use line::print_what;
 pub use verdicts_bad::VerdictsBad;
 pub use writing::verify_to;
-
-#[cfg(test)]
-mod tests;

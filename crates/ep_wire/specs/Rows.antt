@@ -1,4 +1,4 @@
--- Which message it is, as the code has it.
+-- Working words of private contracts: which message it is, as the code has it.
 use Rattle.serde_json.specs.View.{view}
 use Rattle.ep_wire.specs.declared.client_reader.ClientRow.{ClientRow}
 use Rattle.ep_wire.specs.declared.client_reader.ClientRow.TheVariants as code

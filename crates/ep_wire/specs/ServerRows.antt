@@ -1,4 +1,4 @@
--- Which of the server's messages it is, and its members, as the code has them.
+-- Working words of private contracts: which of the server's messages it is, and its members, as the code has them.
 use Rattle.serde_json.specs.View.{items_view, view}
 use Rattle.ep_wire.specs.declared.server_reader.ServerRow.{ServerRow}
 use Rattle.ep_wire.specs.declared.server_reader.ServerRow.TheVariants as code

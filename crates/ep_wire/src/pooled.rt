@@ -50,6 +50,8 @@ pub fn document(alloc: Global, text: &str, attribs: &str, pool: &Value) -> Resul
     let attribs = units_from(alloc, attribs)?;
     let pool = Pool::from_json(alloc, pool)?;
     let change = read_attribs(alloc, &text, &attribs, &pool)?;
+    // Its operations are normal.
+    let _runs = change.ops();
     Ok(apply(alloc, &Doc::empty(alloc), &change)?)
 }
 

@@ -1,5 +1,5 @@
 -- What taking a message comes to.
-use Rattle.std.proofs.Common.{◌≡◌, ℕ, zero, suc, ◌==◌, Bool, true, false, List, [], ◌∷◌, Option, Some, None, Result, Ok, Err, inl, inr, if◌then◌else◌, refl, sym, ap, ◌∙◌, subst}
+use Rattle.std.proofs.Common.{◌≡◌, ℕ, zero, suc, ◌==◌, Bool, true, false, List, [], ◌∷◌, ◌++◌, Option, Some, None, Result, Ok, Err, inl, inr, if◌then◌else◌, refl, sym, ap, ◌∙◌, subst}
 use Rattle.std.specs.Prelude.{MatchResult, nat_lt}
 use Rattle.ep_units.specs.declared.session.Session.{Session}
 use Rattle.ep_outside.specs.Disk.{Contents}
@@ -16,6 +16,7 @@ use Rattle.ep_history.specs.Entries.Outcome.{Refuses, Answers, Records}
 use Rattle.ep_history.specs.Lists.{at, numbered}
 use Rattle.ep_history.specs.Pad.{PadState, end_at, end_numbered, first_end, leave, newest, seat_of}
 use Rattle.ep_history.specs.Readings.{commit, dead_fault, dead_if, end_of}
+use Rattle.ep_history.specs.Records.{accept_record}
 use Rattle.ep_history.specs.Refusals.{first_fault, fault_if}
 use Rattle.ep_history.specs.declared.pad_bad.PadBad.{PadBad}
 use Rattle.ep_history.specs.declared.pad_bad.PadBad.TheVariants as bad
@@ -37,8 +38,9 @@ use Rattle.ep_world.specs.Conns.{change_of, sent_of, why_unread}
 use Rattle.ep_world.specs.declared.taking.Took.{Took}
 use Rattle.ep_world.specs.declared.taking.Took.TheVariants as took
 use Rattle.ep_world.specs.Failing.{IsFailure, failed}
+use Rattle.ep_world.specs.Journal.{behind, full_by, record_in}
 use Rattle.ep_world.specs.Standing.{IsAnswered, IsAt, answer_of, pad_after}
-use Rattle.ep_world.specs.Taking.{Brings, not_made}
+use Rattle.ep_world.specs.Taking.{Brings, IsFull, not_made}
 
 -- ---- refusals
 
@@ -152,45 +154,53 @@ failed-fails (bad.Store n) = tt
 failed-fails (bad.JournalFull n) = tt
 failed-fails b = tt
 
-module _ {D : Type 0} (told_by : D → Option Contents) (failures : D → ℕ) where
+module _ {D : Type 0} (told_by : D → Option Contents) (failures : D → ℕ) (stops_alone : D → Bool) (alone : Bool) (rs : List Record) where
   -- a session leaves
-  pub leaves : (old new : Held D) (pad : PadState) (s : Session) (a : Answer) → IsAnswered told_by failures old pad (Leave s) (Ok a) new
-      → IsAt told_by failures new (leave pad s)
+  pub leaves : (old new : Held D) (pad : PadState) (s : Session) (a : Answer) → IsAnswered told_by failures stops_alone alone rs old pad (Leave s) (Ok a) new
+      → IsAt told_by failures stops_alone alone rs new (leave pad s)
   leaves old new pad s a x =
       let u = unless-answers (dead_fault pad s) (Answers Done (leave pad s)) a x.0 in
-      subst (λ o. IsAt told_by failures new (pad_after pad o)) u.1 x.1
+      subst (λ o. IsAt told_by failures stops_alone alone (behind rs (record_in o)) new (pad_after pad o)) u.1 x.1
 
-  pub leaves-dead : (old new : Held D) (pad : PadState) (s : Session) (why : Why) → IsAnswered told_by failures old pad (Leave s) (Err (bad.Dead why)) new
-      → IsAt told_by failures new (leave pad s)
+  pub leaves-dead : (old new : Held D) (pad : PadState) (s : Session) (why : Why) → IsAnswered told_by failures stops_alone alone rs old pad (Leave s) (Err (bad.Dead why)) new
+      → IsAt told_by failures stops_alone alone rs new (leave pad s)
   leaves-dead old new pad s why x =
       let d = unless-refuses-answer (dead_fault pad s) Done (leave pad s) (bad.Dead why) x.0 in
-      subst (IsAt told_by failures new) (sym (dead-left pad s (bad.Dead why) d)) x.1
+      subst (IsAt told_by failures stops_alone alone rs new) (sym (dead-left pad s (bad.Dead why) d)) x.1
 
   -- an edit is committed
   pub made : (old new : Held D) (pad : PadState) (s : Session) (msg : Message) (now : ℕ) (a : Answer) → is_edit msg.change.edit ≡ true
-      → IsAnswered told_by failures old pad (Accept s msg.base msg.change now) (Ok a) new
-      → (reason pad s msg ≡ None) × (a ≡ CommitAnswer (commit pad (at_head pad msg.base msg.change.edit))) × IsAt told_by failures new (committed pad s now msg.base msg.change)
+      → IsAnswered told_by failures stops_alone alone rs old pad (Accept s msg.base msg.change now) (Ok a) new
+      → (reason pad s msg ≡ None) × (a ≡ CommitAnswer (commit pad (at_head pad msg.base msg.change.edit)))
+      × IsAt told_by failures stops_alone alone (rs ++ accept_record pad s now msg.base msg.change ∷ []) new (committed pad s now msg.base msg.change)
+      × (full_by rs pad (Some (accept_record pad s now msg.base msg.change)) ≡ None)
   made old new pad s msg now a i x =
-      let u = unless-answers (refusal pad s msg.base msg.change) _ a x.0 in
-      (reason-of pad s msg None i u.0, sym (some_same (sym (ap answer_of u.1) ∙ x.0)), subst (λ o. IsAt told_by failures new (pad_after pad o)) u.1 x.1)
+      let u = unless-answers (refusal pad s msg.base msg.change) _ a x.0 in (
+        reason-of pad s msg None i u.0,
+        sym (some_same (sym (ap answer_of u.1) ∙ x.0)),
+        subst (λ o. IsAt told_by failures stops_alone alone (behind rs (record_in o)) new (pad_after pad o)) u.1 x.1,
+        subst (λ o. full_by rs pad (record_in o) ≡ None) u.1 x.2,
+      )
 
   abbrev pub brought : PadState → Session → Message → ℕ → Held D → Result Took WorldBad → Type 0
-  brought pad s msg now new r = MatchResult r (Brings told_by failures pad s msg now new) IsFailure
+  brought pad s msg now new r = MatchResult r (Brings told_by failures stops_alone alone rs pad s msg now new) IsFailure
 
   refused : (old new : Held D) (pad : PadState) (s : Session) (msg : Message) (now : ℕ) (b : PadBad) → is_edit msg.change.edit ≡ true
-      → (outcome pad (Accept s msg.base msg.change now) ≡ Refuses b) × IsAt told_by failures new pad
-      → Brings told_by failures pad s msg now new (took.Refused (why.Pad b))
+      → (outcome pad (Accept s msg.base msg.change now) ≡ Refuses b) × IsAt told_by failures stops_alone alone rs new pad
+      → Brings told_by failures stops_alone alone rs pad s msg now new (took.Refused (why.Pad b))
   refused old new pad s msg now b i x = (Refused b, reason-of pad s msg (Some b) i (unless-refuses (refusal pad s msg.base msg.change) _ _ _ b x.0), refl, x.1)
 
   no-room : (old new : Held D) (pad : PadState) (s : Session) (msg : Message) (now : ℕ) (n : ℕ) → is_edit msg.change.edit ≡ true
-      → IsAnswered told_by failures old pad (Accept s msg.base msg.change now) (Err (bad.JournalFull n)) new → (reason pad s msg ≡ None) × IsAt told_by failures new pad
+      → IsAnswered told_by failures stops_alone alone rs old pad (Accept s msg.base msg.change now) (Err (bad.JournalFull n)) new → IsFull told_by failures stops_alone alone rs pad s msg now new n pad
   no-room old new pad s msg now n i (a, inl h) = absurd (never-full pad s msg.base msg.change n (unless-refuses (refusal pad s msg.base msg.change) _ _ _ (bad.JournalFull n) h))
   no-room old new pad s msg now n i (a, inr x) =
-      (reason-of pad s msg None i (unless-records (refusal pad s msg.base msg.change) _ x.0 x.1 x.2 x.3), a)
+      let f = unless-records (refusal pad s msg.base msg.change) _ x.0 x.1 x.2 x.3 in
+      let o : Outcome = Records (accept_record pad s now msg.base msg.change) (CommitAnswer (commit pad (at_head pad msg.base msg.change.edit))) (committed pad s now msg.base msg.change) in
+      (reason-of pad s msg None i f, a, ap (λ y. full_by rs pad (record_in (unless y o))) (sym f) ∙ ap (λ y. full_by rs pad (record_in y)) x.3 ∙ x.4)
 
   -- or it is refused, or the journal has no room
   pub not-made : (old new : Held D) (pad : PadState) (s : Session) (msg : Message) (now : ℕ) (b : PadBad) → is_edit msg.change.edit ≡ true
-      → IsAnswered told_by failures old pad (Accept s msg.base msg.change now) (Err b) new → brought pad s msg now new (not_made b)
+      → IsAnswered told_by failures stops_alone alone rs old pad (Accept s msg.base msg.change now) (Err b) new → brought pad s msg now new (not_made b)
   not-made old new pad s msg now (bad.Store n) i x = tt
   not-made old new pad s msg now bad.NoMemory i x = tt
   not-made old new pad s msg now (bad.JournalFull n) i x = no-room old new pad s msg now n i x
@@ -212,22 +222,22 @@ module _ {D : Type 0} (told_by : D → Option Contents) (failures : D → ℕ) w
   -- ---- the same of a change and a base that are the message's
 
   same-entry : (old new : Held D) (pad : PadState) (s : Session) (msg : Message) (now base : ℕ) (c : Change) (r : Reply) → msg.base ≡ base → msg.change ≡ c
-      → IsAnswered told_by failures old pad (Accept s base c now) r new → IsAnswered told_by failures old pad (Accept s msg.base msg.change now) r new
+      → IsAnswered told_by failures stops_alone alone rs old pad (Accept s base c now) r new → IsAnswered told_by failures stops_alone alone rs old pad (Accept s msg.base msg.change now) r new
   same-entry old new pad s msg now base c r b e x =
-      subst (λ k. IsAnswered told_by failures old pad (Accept s k msg.change now) r new) (sym b)
-      (subst (λ y. IsAnswered told_by failures old pad (Accept s base y now) r new) (sym e) x)
+      subst (λ k. IsAnswered told_by failures stops_alone alone rs old pad (Accept s k msg.change now) r new) (sym b)
+      (subst (λ y. IsAnswered told_by failures stops_alone alone rs old pad (Accept s base y now) r new) (sym e) x)
 
   pub made-of : (old new : Held D) (pad : PadState) (s : Session) (msg : Message) (now base : ℕ) (c : Change) (x : Told) → msg.base ≡ base → msg.change ≡ c → is_edit c.edit ≡ true
-      → IsAnswered told_by failures old pad (Accept s base c now) (Ok (CommitAnswer (committed_told x))) new → Brings told_by failures pad s msg now new (took.Made x)
+      → IsAnswered told_by failures stops_alone alone rs old pad (Accept s base c now) (Ok (CommitAnswer (committed_told x))) new → Brings told_by failures stops_alone alone rs pad s msg now new (took.Made x)
   made-of old new pad s msg now base c x b e i a =
       let m = made old new pad s msg now _ (ap (λ (y : Change). is_edit y.edit) e ∙ i) (same-entry old new pad s msg now base c (Ok (CommitAnswer (committed_told x))) b e a) in
-      (m.0, same m.1, m.2)
+      (m.0, same m.1, m.2, m.3)
     where
       same : CommitAnswer (committed_told x) ≡ CommitAnswer (commit pad (at_head pad msg.base msg.change.edit)) → committed_told x ≡ commit pad (at_head pad msg.base msg.change.edit)
       same h = cc
 
   pub not-made-of : (old new : Held D) (pad : PadState) (s : Session) (msg : Message) (now base : ℕ) (c : Change) (y : PadBad) → msg.base ≡ base → msg.change ≡ c → is_edit c.edit ≡ true
-      → IsAnswered told_by failures old pad (Accept s base c now) (Err y) new → brought pad s msg now new (not_made y)
+      → IsAnswered told_by failures stops_alone alone rs old pad (Accept s base c now) (Err y) new → brought pad s msg now new (not_made y)
   not-made-of old new pad s msg now base c y b e i a =
       not-made old new pad s msg now y (ap (λ (z : Change). is_edit z.edit) e ∙ i) (same-entry old new pad s msg now base c (Err y) b e a)
 

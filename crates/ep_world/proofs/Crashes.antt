@@ -1,24 +1,27 @@
 -- What a crash comes to, and an opening.
-use Rattle.std.proofs.Common.{◌≡◌, ℕ, Bool, true, false, not, List, [], ◌∷◌, ◌++◌, length, Option, Some, None, Result, Ok, Err, ◌⊎◌, inl, inr, if◌then◌else◌, refl, sym, ap, ◌∙◌, subst, arith}
+use Rattle.std.proofs.Common.{◌≡◌, ℕ, Bool, true, false, not, List, [], ◌∷◌, ◌++◌, length, Option, Some, None, Result, Ok, Err, ◌⊎◌, inl, inr, if◌then◌else◌, refl, sym, ap, ◌∙◌, subst, append-nil, arith}
 use Rattle.std.specs.Option.{option_map}
-use Rattle.std.specs.Prelude.{MatchResult}
+use Rattle.std.specs.Prelude.{◌&&◌, IfOk, MatchResult, is_none}
 use Rattle.std.proofs.lemmas.List.{length-append}
 use Rattle.ep_units.specs.Text.{text_eq}
 use Rattle.ep_units.specs.declared.session.Session.{Session}
 use Rattle.ep_outside.specs.Disk.{Contents}
+use Rattle.ep_outside.specs.declared.image.Image.{Image}
+use Rattle.ep_csread.specs.declared.bad.ReadBad.{ReadBad}
 use Rattle.ep_cs.specs.Change.{Change}
 use Rattle.ep_cs.specs.EditFits.{is_edit}
 use Rattle.ep_cs.specs.NormalRuns.{IsNormal}
-use Rattle.ep_history.specs.Accept.{at_head, committed, refusal}
-use Rattle.ep_history.specs.Entries.{Answer, Reply, unless}
+use Rattle.ep_cs.specs.Fits.{is_identity}
+use Rattle.ep_history.specs.Accept.{at_head, by_session, committed, refusal}
+use Rattle.ep_history.specs.Entries.{Answer, Entry, Reply, unless}
 use Rattle.ep_history.specs.Entries.Answer.{CommitAnswer, StatusAnswer}
 use Rattle.ep_history.specs.Entries.Entry.{Accept, ReadStatus}
 use Rattle.ep_history.specs.Entries.Outcome.{Answers, Records}
-use Rattle.ep_history.specs.History.{head}
+use Rattle.ep_history.specs.History.{head, head_doc, nop_by, step_revs}
 use Rattle.ep_history.specs.Kept.{KeptClient, kept_lost}
-use Rattle.ep_history.specs.Machine.{MachineState, Turn, IsKeptState, IsOpenStep, IsStepAs, IsThen, closed, journal_fault, keeping, reopening, settled, turn, turn_of}
+use Rattle.ep_history.specs.Machine.{MachineState, Turn, IsKeptState, IsOpenStep, IsStepAs, IsStep, IsThen, closed, journal_fault, keeping, reopening, settled, turn, turn_of}
 use Rattle.ep_history.specs.Machine.IsOpenStep.{Does, Lacks, Fails}
-use Rattle.ep_history.specs.Pad.{PadState, newest, reopened}
+use Rattle.ep_history.specs.Pad.{PadState, newest, reopened, with_nops, with_revs}
 use Rattle.ep_history.specs.Readings.{PadStatus as APadStatus, commit, status}
 use Rattle.ep_history.specs.Records.{accept_record, next_pad, told_from}
 use Rattle.ep_history.specs.Refusals.{fault_if}
@@ -34,11 +37,14 @@ use Rattle.ep_history.proofs.Steps.{reopening-kept, settled-kept, step-kept}
 use Rattle.ep_schedule.specs.Headline.{first_sent, next_up}
 use Rattle.ep_schedule.specs.Kepts.{Kepts}
 use Rattle.ep_schedule.specs.World.{Name, Actor as AnActor, Conn, Member as AMember, Message, Reason as AReason, WorldState, crashed, cut_off, reason, stop_as, stop_by, stop_conn, stopped as stops}
+use Rattle.ep_schedule.specs.World.Reason.{Refused}
 use Rattle.ep_schedule.specs.World.Actor.{Nobody, Guest, Named}
 use Rattle.ep_pad.specs.Held.{Held}
 use Rattle.ep_pad.specs.Opening.{IsWoken, stopped}
 use Rattle.ep_pad.specs.Opening.IsWoken.{Was, Opened}
-use Rattle.ep_pad.specs.Standing.{Makes, Stands}
+use Rattle.ep_pad.specs.Standing.{Stands, opening, replied}
+use Rattle.ep_pad.specs.Stopping.{StopsIn}
+use Rattle.ep_pad_file.specs.Stopping.{gate_behind, is_kept}
 use Rattle.ep_pad_file.specs.Standing.{size}
 use Rattle.ep_pad_state.specs.Answering.{status_of}
 use Rattle.ep_pad_state.specs.declared.answers.PadStatus.{PadStatus}
@@ -57,13 +63,24 @@ use Rattle.ep_world.specs.Actors.{IsSame, IsWithout, PutsActor, actor_of, found,
 use Rattle.ep_world.specs.Events.{is_nobody}
 use Rattle.ep_world.specs.Conns.{KeptConn, conn_of, kept_cut, sent_of}
 use Rattle.ep_world.specs.Failing.{IsFailure}
+use Rattle.ep_world.specs.Journal.{behind, full_by, kept_record, keeps_record, record_if, record_in, record_taken}
 use Rattle.ep_world.specs.Shows.{shows_opening}
 use Rattle.ep_world.specs.Standing.{Comes, IsAnswered, IsAt, StandsFor, answer_of, pad_after}
 use Rattle.ep_world.specs.Standing.IsPlayed.{IsEvent}
-use Rattle.ep_world.specs.Stopping.{BreaksOff, FindsFirst, Reopens, TakesFirst, TakesSent, broken_by, broken_off, taken_if, taken_of}
-use Rattle.ep_world.proofs.Brought.{reason-of, sent-read, unless-answers, unless-refuses-answer}
+use Rattle.ep_world.specs.Stopping.{BreaksOff, FindsFirst, Reopens, TakesFirst, TakesSent, broken_by, broken_off, journal_broken, taken_if, taken_of}
+use Rattle.ep_world.proofs.Brought.{reason-of, reason-unread, sent-read, sent-unread, unless-answers, unless-refuses-answer}
 use Rattle.ep_world.proofs.Conns.{takes-message, takes-none}
 use Rattle.ep_world.proofs.Seating.{is-nobody, same-stands}
+
+-- what is there where a call is done may be told otherwise
+pub if-ok : {A E : Type 0} (r : Result A E) (P Q : Type 0) → (P → Q) → IfOk r (λ _. P) → IfOk r (λ _. Q)
+if-ok (Ok x) P Q f p = f p
+if-ok (Err e) P Q f p = tt
+
+-- a program's answer that isn't want of memory is none by the rules
+pub not-lacking : {A : Type 0} (f : A → Answer) (r : Result A PadBad) → (r ≡ Err bad.NoMemory → ⊥) → replied f r ≡ Err bad.NoMemory → ⊥
+not-lacking f (Ok x) h e = cc
+not-lacking f (Err b) h e = let same : b ≡ bad.NoMemory = cc in h (ap Err same)
 
 -- ---- what is pending
 
@@ -74,6 +91,14 @@ settled-whole false st e = refl
 settled-then : (kept : Bool) (t new : MachineState) → IsThen t new → (settled kept new).pad ≡ (settled kept t).pad
 settled-then true t new h = ap (λ (x : MachineState). told_from x.pad x.pending) h.0
 settled-then false t new h = ap (λ (x : MachineState). x.pad) h.0
+
+settled-records : (kept : Bool) (st : MachineState) → st.pending ≡ [] → (settled kept st).records ≡ st.records
+settled-records true st e = ap (λ rs. st.records ++ rs) e ∙ append-nil st.records
+settled-records false st e = refl
+
+settled-records-then : (kept : Bool) (t new : MachineState) → IsThen t new → (settled kept new).records ≡ (settled kept t).records
+settled-records-then true t new h = ap (λ (x : MachineState). x.records ++ x.pending) h.0
+settled-records-then false t new h = ap (λ (x : MachineState). x.records) h.0
 
 -- ---- a take that is broken off
 
@@ -95,8 +120,16 @@ module _ (st : MachineState) (s : Session) (now : ℕ) (msg : Message) where
   abbrev turned : Bool → Option PadBad → Turn
   turned can f = turn_of size st can (unless f (Records taken answered (committed st.pad s now msg.base msg.change)))
 
+  -- what it records
+  abbrev recorded : Option Record
+  recorded = record_if st.pad s now msg (reason st.pad s msg)
+
   abbrev SettlesTo : Bool → MachineState → Type 0
-  SettlesTo kept next = (b : Bool) × ((settled kept next).pad ≡ broken_off st.pad s now msg b)
+  SettlesTo kept next =
+      (b : Bool) × ((settled kept next).pad ≡ broken_off st.pad s now msg b) × ((settled kept next).records ≡ behind st.records (kept_record b recorded))
+
+  taken-records : is_edit msg.change.edit ≡ true → refusal st.pad s msg.base msg.change ≡ None → st.records ++ taken ∷ [] ≡ behind st.records (kept_record true recorded)
+  taken-records i h = sym (ap (λ w. behind st.records (record_if st.pad s now msg w)) (reason-of st.pad s msg None i h))
 
   taken-off : is_edit msg.change.edit ≡ true → refusal st.pad s msg.base msg.change ≡ None → committed st.pad s now msg.base msg.change ≡ broken_off st.pad s now msg true
   taken-off i h = sym (ap (taken_if st.pad s now msg) (reason-of st.pad s msg None i h))
@@ -107,12 +140,12 @@ module _ (st : MachineState) (s : Session) (now : ℕ) (msg : Message) where
     where
       keeps : (f : Option PadBad) → refusal st.pad s msg.base msg.change ≡ None
           → SettlesTo kept (keeping st f taken answered (committed st.pad s now msg.base msg.change)).state
-      keeps (Some full) h = (false, settled-whole kept st p)
-      keeps None h = (true, settled-whole kept _ p ∙ taken-off i h)
+      keeps (Some full) h = (false, settled-whole kept st p, settled-records kept st p)
+      keeps None h = (true, settled-whole kept _ p ∙ taken-off i h, settled-records kept (keeping st None taken answered (committed st.pad s now msg.base msg.change)).state p ∙ taken-records i h)
 
       go : (f : Option PadBad) → refusal st.pad s msg.base msg.change ≡ f → SettlesTo kept (turned (is_edit msg.change.edit) (refusal st.pad s msg.base msg.change)).state
       go (Some b) h =
-          subst (λ (x : Option PadBad). SettlesTo kept (turned (is_edit msg.change.edit) x).state) (sym h) (false, settled-whole kept st p)
+          subst (λ (x : Option PadBad). SettlesTo kept (turned (is_edit msg.change.edit) x).state) (sym h) (false, settled-whole kept st p, settled-records kept st p)
       go None h =
           subst (λ (x : Option PadBad). SettlesTo kept (turned (is_edit msg.change.edit) x).state) (sym h)
           (subst (λ can. SettlesTo kept (turned can None).state) (sym i) (keeps (journal_fault size st taken) h))
@@ -145,15 +178,109 @@ module _ (st : MachineState) (s : Session) (now : ℕ) (msg : Message) where
       go : IsOpenStep size st (Accept s msg.base msg.change now) reply new → (kept : Bool) → SettlesTo kept new
       go (Does r t) kept =
           let x = turn-settles i (k.whole o) kept in
-          (x.0, settled-then kept (turn size st (Accept s msg.base msg.change now)).state new t ∙ x.1)
-      go (Lacks r t) kept = (false, settled-then kept st new t ∙ settled-whole kept st (k.whole o))
-      go (Fails count q adds r h t) false = (false, settled-then false (closed q st) new t)
+          let y = (turn size st (Accept s msg.base msg.change now)).state in
+          (x.0, settled-then kept y new t ∙ x.1, settled-records-then kept y new t ∙ x.2)
+      go (Lacks r t) kept =
+          (false, settled-then kept st new t ∙ settled-whole kept st (k.whole o), settled-records-then kept st new t ∙ settled-records kept st (k.whole o))
+      go (Fails count q adds r h t) false = (false, settled-then false (closed q st) new t, settled-records-then false (closed q st) new t)
       go (Fails count q adds r h t) true =
           let x = turn-adds q i adds in (
             true,
             settled-then true (closed q st) new t ∙ ap (next_pad st.pad) x.1
                 ∙ (accept-recorded st.pad s now msg.base msg.change k.kept.sound x.0 i).1 ∙ taken-off i x.0,
+            settled-records-then true (closed q st) new t ∙ ap (λ y. st.records ++ y ∷ []) x.1 ∙ taken-records i x.0,
           )
+
+  -- on a disk that fails in a stop alone: the state that is found, where the image has the record or hasn't
+  abbrev found-at : Bool → MachineState
+  found-at has = if has then (turn size st (Accept s msg.base msg.change now)).state else st
+
+  abbrev decided : Bool → Bool
+  decided has = has && is_none (full_by st.records st.pad recorded)
+
+  pub record IsFound (b : Bool) (at : MachineState) : Type 0 where
+    pub settled : at.pending ≡ []
+    pub pad : at.pad ≡ broken_off st.pad s now msg b
+    pub records : at.records ≡ behind st.records (kept_record b recorded)
+
+  abbrev whether : Option AReason → Bool
+  whether w = is_none (full_by st.records st.pad (record_if st.pad s now msg w))
+
+  abbrev off : Option AReason → Bool → PadState
+  off w true = taken_if st.pad s now msg w
+  off w false = st.pad
+
+  off-is : (b : Bool) → off (reason st.pad s msg) b ≡ broken_off st.pad s now msg b
+  off-is true = refl
+  off-is false = refl
+
+  turn-found : is_edit msg.change.edit ≡ true → st.pending ≡ [] → (has : Bool) → IsFound (decided has) (found-at has)
+  turn-found i p false = record { settled = p; pad = refl; records = refl }
+  turn-found i p true = let x = go (refusal st.pad s msg.base msg.change) refl in
+      record { settled = x.0; pad = x.1 ∙ off-is (whether (reason st.pad s msg)); records = x.2 }
+    where
+      goal : Option AReason → Turn → Type 0
+      goal w t =
+          (t.state.pending ≡ []) × (t.state.pad ≡ off w (whether w))
+          × (t.state.records ≡ behind st.records (kept_record (whether w) (record_if st.pad s now msg w)))
+
+      keeps : (f : Option PadBad) → journal_fault size st taken ≡ f → goal None (keeping st f taken answered (committed st.pad s now msg.base msg.change))
+      keeps (Some full) h = (
+        p,
+        sym (ap (λ o. off None (is_none o)) h),
+        sym (ap (λ o. behind st.records (kept_record (is_none o) (Some taken))) h),
+      )
+      keeps None h = (
+        p,
+        sym (ap (λ o. off None (is_none o)) h),
+        sym (ap (λ o. behind st.records (kept_record (is_none o) (Some taken))) h),
+      )
+
+      go : (f : Option PadBad) → refusal st.pad s msg.base msg.change ≡ f → goal (reason st.pad s msg) (turned (is_edit msg.change.edit) (refusal st.pad s msg.base msg.change))
+      go (Some b) h =
+          subst (λ w. goal w (turned (is_edit msg.change.edit) (refusal st.pad s msg.base msg.change))) (sym (reason-of st.pad s msg (Some b) i h))
+          (subst (λ (x : Option PadBad). goal (Some (Refused b)) (turned (is_edit msg.change.edit) x)) (sym h) (p, refl, refl))
+      go None h =
+          subst (λ w. goal w (turned (is_edit msg.change.edit) (refusal st.pad s msg.base msg.change))) (sym (reason-of st.pad s msg None i h))
+          (subst (λ (x : Option PadBad). goal None (turned (is_edit msg.change.edit) x)) (sym h)
+          (subst (λ can. goal None (turned can None)) (sym i) (keeps (journal_fault size st taken) refl)))
+
+-- where nothing would be recorded, nothing is changed
+nothing-kept : (k : Bool) → kept_record k None ≡ None
+nothing-kept true = refl
+nothing-kept false = refl
+
+pub nothing-broken : (rs : List Record) (pad : PadState) (now : ℕ) (x : Option (Session × Message)) (k : Bool) → record_taken pad now x ≡ None
+    → (broken_by pad now x k ≡ pad) × (journal_broken rs pad now x k ≡ rs ++ opening pad ∷ [])
+nothing-broken rs pad now x k e =
+    (go x e, ap (λ o. behind rs (kept_record k o) ++ opening pad ∷ []) e ∙ ap (λ o. behind rs o ++ opening pad ∷ []) (nothing-kept k))
+  where
+    why : (y : Session × Message) (w : Option AReason) → record_if pad y.0 now y.1 w ≡ None → taken_if pad y.0 now y.1 w ≡ pad
+    why y None h = none_some (sym h)
+    why y (Some r) h = refl
+
+    broken : (y : Session × Message) (k : Bool) → record_if pad y.0 now y.1 (reason pad y.0 y.1) ≡ None → broken_off pad y.0 now y.1 k ≡ pad
+    broken y true h = why y (reason pad y.0 y.1) h
+    broken y false h = refl
+
+    go : (x : Option (Session × Message)) → record_taken pad now x ≡ None → broken_by pad now x k ≡ pad
+    go None h = refl
+    go (Some y) h = broken y k h
+
+-- the number of the opening is that of the pad before
+opening-off : (pad : PadState) (s : Session) (now : ℕ) (msg : Message) (b : Bool) → opening (broken_off pad s now msg b) ≡ opening pad
+opening-off pad s now msg false = refl
+opening-off pad s now msg true = go (reason pad s msg)
+  where
+    one-of : (b : Bool) (x y : PadState) → opening x ≡ opening pad → opening y ≡ opening pad → opening (if b then x else y) ≡ opening pad
+    one-of true x y e f = e
+    one-of false x y e f = f
+
+    go : (w : Option AReason) → opening (taken_if pad s now msg w) ≡ opening pad
+    go None =
+        let e = at_head pad msg.base msg.change.edit in
+        one-of (is_identity e) (with_nops pad (nop_by (by_session pad s now) (head (newest pad)) ∷ [])) (with_revs pad (step_revs (by_session pad s now) e (head_doc (newest pad)))) refl refl
+    go (Some why) = refl
 
 -- the change of a message whose text spells one
 pub spelled : (msg : Message) (x : Sent) (c : Change) → x ≡ sent_of msg → x.change ≡ Ok c → msg.change ≡ c
@@ -255,32 +382,32 @@ is-stopped w now n true = go (w.actors n)
     go (Guest c) = stopped-at w now c.session c.up
     go (Named m) = stopped-at w now m.conn.session m.conn.up
 
-module _ {D : Type 0} (told_by : D → Option Contents) (failures : D → ℕ) where
-  pub failed-comes : (w : WorldState) (ks : Kepts) (now : ℕ) (e : Told) (new : World D) (b : WorldBad) → IsFailure b → Comes told_by failures w ks now e new (Err b)
-  failed-comes w ks now e new world_bad.Unknown f = absurd f
-  failed-comes w ks now e new world_bad.NoText f = absurd f
-  failed-comes w ks now e new (world_bad.Full n) f = tt
-  failed-comes w ks now e new (world_bad.Store n) f = tt
-  failed-comes w ks now e new world_bad.NoMemory f = tt
-
+module _ {D : Type 0} (told_by : D → Option Contents) (failures : D → ℕ) (stops_alone : D → Bool) (alone : Bool) where
   -- ---- the machine
 
-  pub reopens : (new : Held D) (st mid : MachineState) → IsKeptState st → IsWoken (stopped st) mid → Stands told_by failures new mid → Reopens told_by failures st new
-  reopens new st mid k (Was on is) s = absurd cc
-  reopens new st mid k (Opened kept off fits t) s = (
+  pub reopens : (new : Held D) (st mid : MachineState) → IsKeptState st → IsWoken (stopped st) mid → Stands told_by failures new mid → stops_alone new.disk ≡ alone
+      → Reopens told_by failures stops_alone alone st new
+  reopens new st mid k (Was on is) s m = absurd cc
+  reopens new st mid k (Opened kept off fits t) s m = (
     kept,
     record {
       state = mid;
       stands = s;
       kept = subst IsKeptState (sym t.0) (is-kept kept);
       is_open = ap (λ (x : MachineState). x.is_open) t.0;
+      records = ap (λ (x : MachineState). x.records) t.0 ∙ same-records kept;
       pad = ap (λ (x : MachineState). x.pad) t.0 ∙ same kept;
+      mark = m;
     },
   )
     where
       same : (kept : Bool) → reopened (settled kept (stopped st)).pad ≡ reopened (settled kept st).pad
       same true = refl
       same false = refl
+
+      same-records : (kept : Bool) → (reopening (settled kept (stopped st))).records ≡ (settled kept st).records ++ opening (settled kept st).pad ∷ []
+      same-records true = refl
+      same-records false = refl
 
       none : (kept : Bool) → (settled kept (stopped st)).pending ≡ []
       none true = refl
@@ -295,26 +422,99 @@ module _ {D : Type 0} (told_by : D → Option Contents) (failures : D → ℕ) w
       is-kept false = let x = settled-kept (stopped st) false is-stopped-kept in
           record { kept = reopening-kept (settled false (stopped st)) x.kept; pending = tt; whole = λ e. refl }
 
-  -- a take that was broken off
-  pub breaks : (old new : Held D) (pad : PadState) (s : Session) (now : ℕ) (msg : Message) (reply : Reply) → is_edit msg.change.edit ≡ true → IsAt told_by failures old pad
-      → Makes told_by failures old (Accept s msg.base msg.change now) reply new → BreaksOff told_by failures pad now (Some (s, msg)) new
-  breaks old new pad s now msg reply i a makes =
-      let n = makes a.state a.kept a.stands in
-      let step = subst (λ b. IsStepAs b size a.state (Accept s msg.base msg.change now) reply n.0) a.is_open n.1 in (
-        n.0,
-        n.2,
-        step-kept size a.state (Accept s msg.base msg.change now) reply n.0 a.kept n.1,
-        λ kept.
-            let x = step-settles a.state s now msg reply n.0 i a.kept a.is_open step kept in
-            (x.0, x.1 ∙ ap (λ p. broken_off p s now msg x.0) a.pad),
+  -- a state with these records and this pad is one with those
+  pub opens-as : (new : Held D) (st : MachineState) (rs : List Record) (pad : PadState) → (r : Reopens told_by failures stops_alone alone st new)
+      → (settled r.0 st).pad ≡ pad → (settled r.0 st).records ≡ rs → IsAt told_by failures stops_alone alone (rs ++ opening pad ∷ []) new (reopened pad)
+  opens-as new st rs pad r p q =
+      subst (λ x. IsAt told_by failures stops_alone alone (x ++ opening pad ∷ []) new (reopened pad)) q
+      (subst (λ x. IsAt told_by failures stops_alone alone ((settled r.0 st).records ++ opening x ∷ []) new (reopened x)) p r.1)
+
+  -- nothing is pending
+  pub opens-whole : (old new : Held D) (rs : List Record) (pad : PadState) → (a : IsAt told_by failures stops_alone alone rs old pad)
+      → Reopens told_by failures stops_alone alone a.state new → IsAt told_by failures stops_alone alone (rs ++ opening pad ∷ []) new (reopened pad)
+  opens-whole old new rs pad a r =
+      let p = a.kept.whole a.is_open in
+      opens-as new a.state rs pad r (settled-whole r.0 a.state p ∙ a.pad) (settled-records r.0 a.state p ∙ a.records)
+
+  -- a take that never came to the pad
+  pub breaks-nothing : (old new : Held D) (rs : List Record) (pad : PadState) (now : ℕ) (first : Option (Session × Message)) (calls : ℕ) (image : Image) → record_taken pad now first ≡ None
+      → (a : IsAt told_by failures stops_alone alone rs old pad) → Reopens told_by failures stops_alone alone a.state new
+      → BreaksOff told_by failures stops_alone alone rs pad now first calls image new
+  breaks-nothing old new rs pad now first calls image none a r =
+      let k = keeps_record rs pad now first calls image in
+      let n = nothing-broken rs pad now first k none in (
+        k,
+        subst (λ x. IsAt told_by failures stops_alone alone (journal_broken rs pad now first k) new (reopened x)) (sym n.0)
+            (subst (λ x. IsAt told_by failures stops_alone alone x new (reopened pad)) (sym n.1) (opens-whole old new rs pad a r)),
+        λ _. refl,
       )
 
-  pub breaks-first : (old new : Held D) (pad : PadState) (now : ℕ) (message : Option (Session × Message)) (first : Option (Session × Sent)) (s : Session) (x : Sent) (c : Change) (reply : Reply)
-      → first ≡ option_map taken_of message → first ≡ Some (s, x) → x.change ≡ Ok c → IsNormal c → IsAt told_by failures old pad
-      → Makes told_by failures old (Accept s x.base c now) reply new → BreaksOff told_by failures pad now message new
-  breaks-first old new pad now message first s x c reply e h ok n a makes = go message (sym e ∙ h)
+  -- an open machine is awake
+  awake : (st mid : MachineState) → st.is_open ≡ true → IsWoken st mid → mid ≡ st
+  awake st mid o (Was on is) = is
+  awake st mid o (Opened kept off fits t) = absurd (let e : true ≡ false = sym o ∙ off in cc)
+
+  -- what a stopped take comes to, over any disk, and over one that fails in a stop alone
+  abbrev pub Broken : MachineState → Entry → Reply → Held D → Type 0
+  Broken st e reply new =
+      (mid next last : MachineState) × IsWoken st mid × IsStep size mid e reply next × IsWoken (stopped next) last × Stands told_by failures new last
+
+  abbrev pub BrokenAlone : MachineState → Entry → Reply → ℕ → Image → Held D → Type 0
+  BrokenAlone st e reply calls image new =
+      (mid at last : MachineState) × IsWoken st mid × StopsIn mid e reply (is_kept (gate_behind mid.records) calls image) at × IsWoken at last × Stands told_by failures new last
+
+  -- of this state
+  module _ (new : Held D) (st : MachineState) (s : Session) (now : ℕ) (msg : Message) (reply : Reply) (calls : ℕ) (image : Image) (i : is_edit msg.change.edit ≡ true) (k : IsKeptState st)
+      (o : st.is_open ≡ true) (mark : stops_alone new.disk ≡ alone) where
+    abbrev BreaksAt : Type 0
+    BreaksAt = BreaksOff told_by failures stops_alone alone st.records st.pad now (Some (s, msg)) calls image new
+
+    breaks-at : (next : MachineState) (b : Bool) (r : Reopens told_by failures stops_alone alone next new) → (settled r.0 next).pad ≡ broken_off st.pad s now msg b
+        → (settled r.0 next).records ≡ behind st.records (kept_record b (record_if st.pad s now msg (reason st.pad s msg)))
+        → (alone ≡ true → b ≡ keeps_record st.records st.pad now (Some (s, msg)) calls image) → BreaksAt
+    breaks-at next b r p q d = (
+      b,
+      subst (λ x. IsAt told_by failures stops_alone alone (behind st.records (kept_record b (record_if st.pad s now msg (reason st.pad s msg))) ++ x ∷ []) new (reopened (broken_off st.pad s now msg b)))
+          (opening-off st.pad s now msg b) (opens-as new next _ (broken_off st.pad s now msg b) r p q),
+      d,
+    )
+
+    breaks-open : (alone ≡ false) → Broken st (Accept s msg.base msg.change now) reply new → BreaksAt
+    breaks-open f x =
+        let e = awake st x.0 o x.3 in
+        let is : IsOpenStep size st (Accept s msg.base msg.change now) reply x.1 = subst (λ b. IsStepAs b size st (Accept s msg.base msg.change now) reply x.1) o
+        (subst (λ m. IsStep size m (Accept s msg.base msg.change now) reply x.1) e x.4) in
+        let kept = step-kept size st (Accept s msg.base msg.change now) reply x.1 k (subst (λ m. IsStep size m (Accept s msg.base msg.change now) reply x.1) e x.4) in
+        let r = reopens new x.1 x.2 kept x.5 x.6 mark in
+        let t = step-settles st s now msg reply x.1 i k o is r.0 in
+        breaks-at x.1 t.0 r t.1 t.2 (λ a. absurd (let z : true ≡ false = sym a ∙ f in cc))
+
+    found-kept : (has : Bool) → IsKeptState (found-at st s now msg has)
+    found-kept true =
+        let t = turn size st (Accept s msg.base msg.change now) in
+        step-kept size st (Accept s msg.base msg.change now) t.reply t.state k
+        (subst (λ b. IsStepAs b size st (Accept s msg.base msg.change now) t.reply t.state) (sym o) (Does refl (refl, omega arith)))
+    found-kept false = k
+
+    breaks-alone : (reply ≡ Err bad.NoMemory → ⊥) → BrokenAlone st (Accept s msg.base msg.change now) reply calls image new → BreaksAt
+    breaks-alone heard x =
+        let e = awake st x.0 o x.3 in
+        let has = is_kept (gate_behind st.records) calls image in
+        let stop : StopsIn st (Accept s msg.base msg.change now) reply has x.1 =
+        subst (λ (m : MachineState). StopsIn m (Accept s msg.base msg.change now) reply (is_kept (gate_behind m.records) calls image) x.1) e x.4 in
+        let at = found-at st s now msg has in
+        let r = reopens new at x.2 (found-kept has) (subst (λ m. IsWoken m x.2) (stop.does heard) x.5) x.6 mark in
+        let f = turn-found st s now msg i (k.whole o) has in
+        breaks-at at (decided st s now msg has) r (settled-whole r.0 at f.settled ∙ f.pad) (settled-records r.0 at f.settled ∙ f.records) (λ _. refl)
+
+  -- the first message of a name, whose text spells a change
+  pub breaks-first : (old new : Held D) (rs : List Record) (pad : PadState) (now : ℕ) (message : Option (Session × Message)) (first : Option (Session × Sent)) (s : Session) (x : Sent) (c : Change)
+      (reply : Reply) (calls : ℕ) (image : Image) → first ≡ option_map taken_of message → first ≡ Some (s, x) → x.change ≡ Ok c → IsNormal c → (a : IsAt told_by failures stops_alone alone rs old pad)
+      → stops_alone new.disk ≡ stops_alone old.disk → (reply ≡ Err bad.NoMemory → ⊥) → Broken a.state (Accept s x.base c now) reply new
+      → (stops_alone old.disk ≡ true → BrokenAlone a.state (Accept s x.base c now) reply calls image new) → BreaksOff told_by failures stops_alone alone rs pad now message calls image new
+  breaks-first old new rs pad now message first s x c reply calls image e h ok n a mark heard over sure = go message (sym e ∙ h)
     where
-      go : (m : Option (Session × Message)) → option_map taken_of m ≡ Some (s, x) → BreaksOff told_by failures pad now m new
+      go : (m : Option (Session × Message)) → option_map taken_of m ≡ Some (s, x) → BreaksOff told_by failures stops_alone alone rs pad now m calls image new
       go None q = none_some q
       go (Some y) q =
           let p = some_same q in
@@ -322,27 +522,50 @@ module _ {D : Type 0} (told_by : D → Option Contents) (failures : D → ℕ) w
           let sent : sent_of y.1 ≡ x = ap (λ (z : Session × Sent). z.1) p in
           let base : y.1.base ≡ x.base = ap (λ (z : Sent). z.base) sent in
           let change : y.1.change ≡ c = spelled y.1 x c (sym sent) ok in
-          breaks old new pad y.0 now y.1 reply (subst (λ (d : Change). is_edit d.edit ≡ true) (sym change) (normal-edit c n)) a
-          (subst (λ t. Makes told_by failures old (Accept t y.1.base y.1.change now) reply new) (sym session)
-          (subst (λ b. Makes told_by failures old (Accept s b y.1.change now) reply new) (sym base)
-          (subst (λ d. Makes told_by failures old (Accept s x.base d now) reply new) (sym change) makes)))
+          let entry : Accept s x.base c now ≡ Accept y.0 y.1.base y.1.change now =
+          ap (λ t. Accept t x.base c now) (sym session) ∙ ap (λ b. Accept y.0 b c now) (sym base) ∙ ap (λ d. Accept y.0 y.1.base d now) (sym change) in
+          let edit = subst (λ (d : Change). is_edit d.edit ≡ true) (sym change) (normal-edit c n) in
+          subst (λ r. BreaksOff told_by failures stops_alone alone r pad now (Some y) calls image new) a.records
+          (subst (λ w. BreaksOff told_by failures stops_alone alone a.state.records w now (Some y) calls image new) a.pad (at y edit entry alone refl))
+        where
+          at : (y : Session × Message) → is_edit y.1.change.edit ≡ true → Accept s x.base c now ≡ Accept y.0 y.1.base y.1.change now → (b : Bool) → alone ≡ b
+              → BreaksOff told_by failures stops_alone alone a.state.records a.state.pad now (Some y) calls image new
+          at y edit entry true t =
+              breaks-alone new a.state y.0 now y.1 reply calls image edit a.kept a.is_open (mark ∙ a.mark) heard
+              (subst (λ z. BrokenAlone a.state z reply calls image new) entry (sure (a.mark ∙ t)))
+          at y edit entry false t =
+              breaks-open new a.state y.0 now y.1 reply calls image edit a.kept a.is_open (mark ∙ a.mark) t (subst (λ z. Broken a.state z reply new) entry over)
 
-  -- one that never came to the pad
-  pub breaks-nothing : (m : Held D) (pad : PadState) (now : ℕ) (first : Option (Session × Message)) → IsAt told_by failures m pad → BreaksOff told_by failures pad now first m
-  breaks-nothing m pad now first a =
-      (a.state, a.stands, a.kept, λ kept. (false, settled-whole kept a.state (a.kept.whole a.is_open) ∙ a.pad ∙ go first))
+  -- one whose text spells none
+  pub breaks-unread : (old new : Held D) (rs : List Record) (pad : PadState) (now : ℕ) (message : Option (Session × Message)) (first : Option (Session × Sent)) (s : Session) (x : Sent) (why : ReadBad)
+      (calls : ℕ) (image : Image) → first ≡ option_map taken_of message → first ≡ Some (s, x) → x.change ≡ Err why → (a : IsAt told_by failures stops_alone alone rs old pad)
+      → Reopens told_by failures stops_alone alone a.state new → BreaksOff told_by failures stops_alone alone rs pad now message calls image new
+  breaks-unread old new rs pad now message first s x why calls image e h err a r = breaks-nothing old new rs pad now message calls image (go message (sym e ∙ h)) a r
     where
-      go : (x : Option (Session × Message)) → pad ≡ broken_by pad now x false
-      go None = refl
-      go (Some x) = refl
+      go : (m : Option (Session × Message)) → option_map taken_of m ≡ Some (s, x) → record_taken pad now m ≡ None
+      go None q = refl
+      go (Some y) q =
+          let sent : sent_of y.1 ≡ x = ap (λ (z : Session × Sent). z.1) (some_same q) in
+          ap (record_if pad y.0 now y.1) (reason-unread pad y.0 y.1 (sent-unread x y.1 why (sym sent) err).0)
 
+  -- none at all
+  pub breaks-none : (old new : Held D) (rs : List Record) (pad : PadState) (now : ℕ) (message : Option (Session × Message)) (first : Option (Session × Sent)) (calls : ℕ) (image : Image)
+      → first ≡ option_map taken_of message → first ≡ None → (a : IsAt told_by failures stops_alone alone rs old pad)
+      → Reopens told_by failures stops_alone alone a.state new → BreaksOff told_by failures stops_alone alone rs pad now message calls image new
+  breaks-none old new rs pad now message first calls image e h a r = breaks-nothing old new rs pad now message calls image (go message (sym e ∙ h)) a r
+    where
+      go : (m : Option (Session × Message)) → option_map taken_of m ≡ None → record_taken pad now m ≡ None
+      go None q = refl
+      go (Some y) q = none_some (sym q)
+
+module _ {D : Type 0} (told_by : D → Option Contents) (failures : D → ℕ) (stops_alone : D → Bool) (alone : Bool) (rs : List Record) where
   -- ---- the pad's status
 
-  pub status-there : (old new : Held D) (pad : PadState) (x : PadStatus) → IsAnswered told_by failures old pad ReadStatus (Ok (StatusAnswer (status_of x))) new
-      → (pad.present ≡ true) × (x.head ≡ head (newest pad)) × IsAt told_by failures new pad
+  pub status-there : (old new : Held D) (pad : PadState) (x : PadStatus) → IsAnswered told_by failures stops_alone alone rs old pad ReadStatus (Ok (StatusAnswer (status_of x))) new
+      → (pad.present ≡ true) × (x.head ≡ head (newest pad)) × IsAt told_by failures stops_alone alone rs new pad
   status-there old new pad x a =
       let u = unless-answers (gone_fault pad) (Answers (StatusAnswer (status pad)) pad) _ a.0 in
-      (there pad.present u.0, same (sym (ap answer_of u.1) ∙ a.0), subst (λ o. IsAt told_by failures new (pad_after pad o)) u.1 a.1)
+      (there pad.present u.0, same (sym (ap answer_of u.1) ∙ a.0), subst (λ o. IsAt told_by failures stops_alone alone (behind rs (record_in o)) new (pad_after pad o)) u.1 a.1)
     where
       there : (b : Bool) → fault_if (not b) bad.Gone ≡ None → b ≡ true
       there true e = refl
@@ -354,8 +577,8 @@ module _ {D : Type 0} (told_by : D → Option Contents) (failures : D → ℕ) w
           inside : Some (StatusAnswer (status pad)) ≡ Some (StatusAnswer (status_of x)) → status_of x ≡ status pad
           inside e = cc
 
-  pub status-gone : (old new : Held D) (pad : PadState) → IsAnswered told_by failures old pad ReadStatus (Err bad.Gone) new
-      → (pad.present ≡ false) × IsAt told_by failures new pad
+  pub status-gone : (old new : Held D) (pad : PadState) → IsAnswered told_by failures stops_alone alone rs old pad ReadStatus (Err bad.Gone) new
+      → (pad.present ≡ false) × IsAt told_by failures stops_alone alone rs new pad
   status-gone old new pad a = (gone pad.present (unless-refuses-answer (gone_fault pad) _ _ bad.Gone a.0), a.1)
     where
       gone : (b : Bool) → fault_if (not b) bad.Gone ≡ Some bad.Gone → b ≡ false
@@ -364,93 +587,95 @@ module _ {D : Type 0} (told_by : D → Option Contents) (failures : D → ℕ) w
 
   -- ---- the world
 
-  crashed-stands : (old new : World D) (w v : WorldState) (ks : Kepts) → StandsFor told_by failures old w ks → IsAt told_by failures new.machine (reopened v.pad) → v.id ≡ w.id
+  pub failed-comes : (w : WorldState) (ks : Kepts) (now : ℕ) (e : Told) (new : World D) (b : WorldBad) → IsFailure b → Comes told_by failures stops_alone alone rs w ks now e new (Err b)
+  failed-comes w ks now e new world_bad.Unknown f = absurd f
+  failed-comes w ks now e new world_bad.NoText f = absurd f
+  failed-comes w ks now e new (world_bad.Full n) f = tt
+  failed-comes w ks now e new (world_bad.Store n) f = tt
+  failed-comes w ks now e new world_bad.NoMemory f = tt
+
+  crashed-stands : (qs : List Record) (old new : World D) (w v : WorldState) (ks : Kepts) → StandsFor told_by failures stops_alone alone rs old w ks
+      → IsAt told_by failures stops_alone alone qs new.machine (reopened v.pad) → v.id ≡ w.id
       → v.actors ≡ w.actors → new.id ≡ old.id → ((q : Name) → found new.actors q ≡ option_map kept_cut_off (found old.actors q))
-      → StandsFor told_by failures new (crashed v) (λ n. kept_lost (ks n))
-  crashed-stands old new w v ks s m j e i cut = record {
+      → StandsFor told_by failures stops_alone alone qs new (crashed v) (λ n. kept_lost (ks n))
+  crashed-stands qs old new w v ks s m j e i cut = record {
     machine = m;
     id = i ∙ s.id ∙ sym j;
     actors = λ q. cut q ∙ ap (option_map kept_cut_off) (s.actors q) ∙ cut-member (w.actors q) (ks q) ∙ ap (λ f. actor_of (cut_off (f q)) (kept_lost (ks q))) (sym e);
   }
 
   -- what an opening shows
-  abbrev pub IsOpening : PadState → Held D → Result Shown WorldBad → Type 0
-  IsOpening pad new r = MatchResult r (λ x. (x ≡ shows_opening pad) × IsAt told_by failures new pad) IsFailure
+  abbrev pub IsOpening : List Record → PadState → Held D → Result Shown WorldBad → Type 0
+  IsOpening qs pad new r = MatchResult r (λ x. (x ≡ shows_opening pad) × IsAt told_by failures stops_alone alone qs new pad) IsFailure
 
-  pub crash-comes : (old new : World D) (mid : Held D) (w : WorldState) (ks : Kepts) (now : ℕ) (r : Result Shown WorldBad) → StandsFor told_by failures old w ks
-      → ((st : MachineState) → IsKeptState st → Stands told_by failures old.machine st → Reopens told_by failures st mid)
-      → ((pad : PadState) → IsAt told_by failures mid pad → IsOpening pad new.machine r)
+  pub crash-comes : (old new : World D) (mid : Held D) (w : WorldState) (ks : Kepts) (now : ℕ) (r : Result Shown WorldBad) → StandsFor told_by failures stops_alone alone rs old w ks
+      → ((st : MachineState) → IsKeptState st → Stands told_by failures old.machine st → stops_alone old.machine.disk ≡ alone → Reopens told_by failures stops_alone alone st mid)
+      → ((qs : List Record) (pad : PadState) → IsAt told_by failures stops_alone alone qs mid pad → IsOpening qs pad new.machine r)
       → new.id ≡ old.id → ((q : Name) → found new.actors q ≡ option_map kept_cut_off (found old.actors q))
-      → Comes told_by failures w ks now (told.Stop None) new r
-  crash-comes old new mid w ks now r s opens shows i cut = go r (shows (reopened w.pad) m)
+      → Comes told_by failures stops_alone alone rs w ks now (told.Stop None) new r
+  crash-comes old new mid w ks now r s opens shows i cut = go r (shows qs (reopened w.pad) m)
     where
-      a : IsAt told_by failures old.machine w.pad
+      a : IsAt told_by failures stops_alone alone rs old.machine w.pad
       a = s.machine
 
-      o : Reopens told_by failures a.state mid
-      o = opens a.state a.kept a.stands
+      qs : List Record
+      qs = rs ++ opening w.pad ∷ []
 
-      m : IsAt told_by failures mid (reopened w.pad)
-      m = subst (λ p. IsAt told_by failures mid (reopened p)) (settled-whole o.0 a.state (a.kept.whole a.is_open) ∙ a.pad) o.1
+      m : IsAt told_by failures stops_alone alone qs mid (reopened w.pad)
+      m = opens-whole told_by failures stops_alone alone old.machine mid rs w.pad a (opens a.state a.kept a.stands a.mark)
 
-      go : (r : Result Shown WorldBad) → IsOpening (reopened w.pad) new.machine r → Comes told_by failures w ks now (told.Stop None) new r
-      go (Ok x) h = (refl, refl, IsEvent true h.0 (crashed-stands old new w w ks s h.1 refl refl i cut))
+      go : (r : Result Shown WorldBad) → IsOpening qs (reopened w.pad) new.machine r → Comes told_by failures stops_alone alone rs w ks now (told.Stop None) new r
+      go (Ok x) h = (refl, refl, IsEvent true h.0 refl (λ _. tt) (crashed-stands qs old new w w ks s h.1 refl refl i cut))
       go (Err b) f = failed-comes w ks now (told.Stop None) new b f
 
-  pub stop-comes : (old new : World D) (early mid last : Held D) (slots : List Slot) (w : WorldState) (ks : Kepts) (now : ℕ) (at : StopAt) (x : Option (Session × Sent)) (r : Result Shown WorldBad)
-      → StandsFor told_by failures old w ks → FindsFirst old.actors at.name (Ok x) slots
-      → ((st : MachineState) → Stands told_by failures old.machine st → Stands told_by failures early st)
-      → ((pad : PadState) (first : Option (Session × Message)) → x ≡ option_map taken_of first → IsAt told_by failures early pad → BreaksOff told_by failures pad now first mid)
-      → ((st : MachineState) → IsKeptState st → Stands told_by failures mid st → Reopens told_by failures st last)
-      → ((pad : PadState) → IsAt told_by failures last pad → IsOpening pad new.machine r)
+  pub stop-comes : (old new : World D) (last : Held D) (slots : List Slot) (w : WorldState) (ks : Kepts) (now : ℕ) (at : StopAt) (x : Option (Session × Sent)) (r : Result Shown WorldBad)
+      → StandsFor told_by failures stops_alone alone rs old w ks → FindsFirst old.actors at.name (Ok x) slots
+      → ((qs : List Record) (pad : PadState) (first : Option (Session × Message)) → x ≡ option_map taken_of first → IsAt told_by failures stops_alone alone qs old.machine pad
+      → BreaksOff told_by failures stops_alone alone qs pad now first at.calls at.image last)
+      → ((qs : List Record) (pad : PadState) → IsAt told_by failures stops_alone alone qs last pad → IsOpening qs pad new.machine r)
       → new.id ≡ old.id → ((q : Name) → found new.actors q ≡ option_map kept_cut_off (found slots q))
-      → Comes told_by failures w ks now (told.Stop (Some at)) new r
-  stop-comes old new early mid last slots w ks now at x r s finds stops-at breaks opens shows i cut = go r (shows (reopened v.pad) m)
+      → Comes told_by failures stops_alone alone rs w ks now (told.Stop (Some at)) new r
+  stop-comes old new last slots w ks now at x r s finds breaks shows i cut = go r (shows qs (reopened v.pad) m)
     where
-      a : IsAt told_by failures old.machine w.pad
-      a = s.machine
-
       is : actor_of (w.actors at.name) (ks at.name) ≡ Some finds.0
       is = sym (s.actors at.name) ∙ finds.2
 
       one : TakesOne (w.actors at.name) x finds.0 finds.1
       one = takes-one (w.actors at.name) (ks at.name) x finds.0 finds.1 is finds.3
 
-      off : BreaksOff told_by failures w.pad now (next_up (w.actors at.name)) mid
-      off = breaks w.pad (next_up (w.actors at.name)) one.first (record { state = a.state; stands = stops-at a.state a.stands; kept = a.kept; is_open = a.is_open; pad = a.pad })
-
-      o : Reopens told_by failures off.0 last
-      o = opens off.0 off.2 off.1
-
-      b : (b : Bool) × ((settled o.0 off.0).pad ≡ broken_by w.pad now (next_up (w.actors at.name)) b)
-      b = off.3 o.0
+      off : BreaksOff told_by failures stops_alone alone rs w.pad now (next_up (w.actors at.name)) at.calls at.image last
+      off = breaks rs w.pad (next_up (w.actors at.name)) one.first s.machine
 
       v : WorldState
-      v = stops w now (Some at.name) b.0
+      v = stops w now (Some at.name) off.0
 
-      is-v : IsStopped w v now (next_up (w.actors at.name)) b.0
-      is-v = is-stopped w now at.name b.0
+      is-v : IsStopped w v now (next_up (w.actors at.name)) off.0
+      is-v = is-stopped w now at.name off.0
 
-      m : IsAt told_by failures last (reopened v.pad)
-      m = subst (λ p. IsAt told_by failures last (reopened p)) (b.1 ∙ sym is-v.pad) o.1
+      qs : List Record
+      qs = journal_broken rs w.pad now (next_up (w.actors at.name)) off.0
+
+      m : IsAt told_by failures stops_alone alone qs last (reopened v.pad)
+      m = subst (λ p. IsAt told_by failures stops_alone alone qs last (reopened p)) (sym is-v.pad) off.1
 
       known : (z : AnActor) → actor_of z (ks at.name) ≡ Some finds.0 → not (is_nobody z) ≡ true
       known Nobody e = none_some e
       known (Guest c) e = refl
       known (Named m) e = refl
 
-      go : (r : Result Shown WorldBad) → IsOpening (reopened v.pad) new.machine r → Comes told_by failures w ks now (told.Stop (Some at)) new r
+      go : (r : Result Shown WorldBad) → IsOpening qs (reopened v.pad) new.machine r → Comes told_by failures stops_alone alone rs w ks now (told.Stop (Some at)) new r
       go (Ok y) h = (
         known (w.actors at.name) is,
         refl,
-        IsEvent b.0 h.0 (crashed-stands old new w v ks s h.1 is-v.id is-v.actors i (cut-after old.actors slots new.actors at.name finds.0 finds.1 finds.2 one.cut finds.4 cut)),
+        IsEvent off.0 h.0 refl off.2
+            (crashed-stands qs old new w v ks s h.1 is-v.id is-v.actors i (cut-after old.actors slots new.actors at.name finds.0 finds.1 finds.2 one.cut finds.4 cut)),
       )
       go (Err f) h = failed-comes w ks now (told.Stop (Some at)) new f h
 
   -- nobody has the name
-  pub stop-unknown : (old new : World D) (w : WorldState) (ks : Kepts) (now : ℕ) (at : StopAt) → StandsFor told_by failures old w ks → found old.actors at.name ≡ None
-      → new.machine ≡ old.machine → new.id ≡ old.id → IsSame old.actors new.actors → Comes told_by failures w ks now (told.Stop (Some at)) new (Err world_bad.Unknown)
+  pub stop-unknown : (old new : World D) (w : WorldState) (ks : Kepts) (now : ℕ) (at : StopAt) → StandsFor told_by failures stops_alone alone rs old w ks → found old.actors at.name ≡ None
+      → new.machine ≡ old.machine → new.id ≡ old.id → IsSame old.actors new.actors → Comes told_by failures stops_alone alone rs w ks now (told.Stop (Some at)) new (Err world_bad.Unknown)
   stop-unknown old new w ks now at s none m i same = (
     ap (λ z. not (is_nobody z)) (is-nobody (w.actors at.name) (ks at.name) (sym (s.actors at.name) ∙ none)),
-    same-stands told_by failures old new w ks s (subst (λ y. IsAt told_by failures y w.pad) (sym m) s.machine) i same,
+    same-stands told_by failures stops_alone alone rs old new w ks s (subst (λ y. IsAt told_by failures stops_alone alone rs y w.pad) (sym m) s.machine) i same,
   )

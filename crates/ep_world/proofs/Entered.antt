@@ -1,5 +1,5 @@
 -- Clients and guests come.
-use Rattle.std.proofs.Common.{◌≡◌, ℕ, Bool, true, false, not, [], Option, Some, None, Ok, Err, if◌then◌else◌, refl, sym, ap, ◌∙◌, subst}
+use Rattle.std.proofs.Common.{◌≡◌, ℕ, Bool, List, true, false, not, [], Option, Some, None, Ok, Err, if◌then◌else◌, refl, sym, ap, ◌∙◌, subst}
 use Rattle.ep_units.specs.declared.grant.Grant.{Grant}
 use Rattle.ep_outside.specs.Disk.{Contents}
 use Rattle.ep_history.specs.Entries.{Answer, Outcome, outcome, unless, logs_in}
@@ -32,11 +32,13 @@ use Rattle.ep_world.specs.Entering.{started_member}
 use Rattle.ep_world.specs.Events.{is_client, is_guest}
 use Rattle.ep_world.specs.Failing.{shown_or_failed}
 use Rattle.ep_world.specs.Shows.{shows_entered, visit_verb}
+use Rattle.ep_world.specs.Journal.{journal_after, shows_full}
 use Rattle.ep_world.specs.Standing.{Comes, IsAnswered, IsAt, StandsFor, answer_of, pad_after}
 use Rattle.ep_world.specs.Standing.IsPlayed.{IsEvent}
 use Rattle.ep_world.proofs.Seating.{put-actors, put-actors-kept}
 use Rattle.ep_world.proofs.ByServer.{Refusing, pad-refuses, with-pad}
 use Rattle.ep_world.proofs.Brought.{unless-answers}
+use Rattle.ep_history.specs.declared.record.Record.{Record}
 
 -- ---- what a login comes to
 
@@ -110,7 +112,7 @@ client-known Nobody k = refl
 client-known (Guest c) k = refl
 client-known (Named m) k = refl
 
-module _ {D : Type 0} (told_by : D → Option Contents) (failures : D → ℕ) where
+module _ {D : Type 0} (told_by : D → Option Contents) (failures : D → ℕ) (stops_alone : D → Bool) (alone : Bool) (rs : List Record) where
   -- ---- clients
 
   login-refusing : (w : WorldState) (ks : Kepts) (now : ℕ) (n : Name) → is_guest (w.actors n) ≡ false
@@ -121,23 +123,27 @@ module _ {D : Type 0} (told_by : D → Option Contents) (failures : D → ℕ) w
     shown = λ b h. ap (shows_entered verb.Login n (opened w.pad now)) (fault b h);
     leaves = λ b h. (not-guest (w.actors n) i w now n (Some b) (fault b h), not-guest-kept (w.actors n) i w now ks n (Some b) (fault b h));
     room = λ k. refl;
+    adds = refl;
+    after = λ rs. refl;
+    decides = λ rs. tt;
+    same = refl;
     full = (refl, refl);
   }
     where
       fault : (b : PadBad) → outcome w.pad (Login (grant_of w n false) now) ≡ Refuses b → login_fault w.pad (grant_of w n false) ≡ Some b
       fault b h = login-refused-fault w.pad (grant_of w n false) now b h
 
-  pub login-refused : (old new : World D) (w : WorldState) (ks : Kepts) (now : ℕ) (n : Name) (b : PadBad) → is_guest (w.actors n) ≡ false → StandsFor told_by failures old w ks
-      → IsAnswered told_by failures old.machine w.pad (Login (grant_of w n false) now) (Err b) new.machine → new.id ≡ old.id → new.actors ≡ old.actors
-      → Comes told_by failures w ks now (told.Login n) new (shown_or_failed verb.Login (Some n) b)
+  pub login-refused : (old new : World D) (w : WorldState) (ks : Kepts) (now : ℕ) (n : Name) (b : PadBad) → is_guest (w.actors n) ≡ false → StandsFor told_by failures stops_alone alone rs old w ks
+      → IsAnswered told_by failures stops_alone alone rs old.machine w.pad (Login (grant_of w n false) now) (Err b) new.machine → new.id ≡ old.id → new.actors ≡ old.actors
+      → Comes told_by failures stops_alone alone rs w ks now (told.Login n) new (shown_or_failed verb.Login (Some n) b)
   login-refused old new w ks now n b i s a j e =
-      pad-refuses told_by failures old new w w ks ks w.pad now (told.Login n) (Login (grant_of w n false) now) verb.Login (Some n) b (login-refusing w ks now n i) a
-      (λ m. with-pad told_by failures old new w ks w.pad s m j e)
+      pad-refuses told_by failures stops_alone alone rs old new w w ks ks w.pad now (told.Login n) (Login (grant_of w n false) now) verb.Login (Some n) b (login-refusing w ks now n i) a
+      (λ m. with-pad told_by failures stops_alone alone rs rs old new w ks w.pad s m j e)
 
-  pub logged-in : (old new : World D) (w : WorldState) (ks : Kepts) (now : ℕ) (n : Name) (x : Welcome) → is_guest (w.actors n) ≡ false → StandsFor told_by failures old w ks
-      → IsAnswered told_by failures old.machine w.pad (Login (grant_of w n false) now) (Ok (LoginAnswer (welcome_of x))) new.machine → new.id ≡ old.id
+  pub logged-in : (old new : World D) (w : WorldState) (ks : Kepts) (now : ℕ) (n : Name) (x : Welcome) → is_guest (w.actors n) ≡ false → StandsFor told_by failures stops_alone alone rs old w ks
+      → IsAnswered told_by failures stops_alone alone rs old.machine w.pad (Login (grant_of w n false) now) (Ok (LoginAnswer (welcome_of x))) new.machine → new.id ≡ old.id
       → PutsActor old.actors n (actor.Named (started_member x)) new.actors
-      → Comes told_by failures w ks now (told.Login n) new (Ok (shown.Entered verb.Login n x.session x.rev))
+      → Comes told_by failures stops_alone alone rs w ks now (told.Login n) new (Ok (shown.Entered verb.Login n x.session x.rev))
   logged-in old new w ks now n x i s a j p =
       let g = grant_of w n false in
       let there = opened w.pad now in
@@ -145,16 +151,16 @@ module _ {D : Type 0} (told_by : D → Option Contents) (failures : D → ℕ) w
       let q : welcome_of x ≡ welcome there g = same u.answer in
       let session = ap (λ (y : AWelcome). y.session) q in
       let rev = ap (λ (y : AWelcome). y.rev) q in
-      let m = subst (IsAt told_by failures new.machine) u.pad a.1 in
+      let m = subst (IsAt told_by failures stops_alone alone (journal_after rs w now true (told.Login n)) new.machine) u.pad a.1 in
       let k = kept_started (head_doc (newest there)) (head (newest there)) (next_session there) in
       let is : Some (actor.Named (member_of (new_member there (next_session there)) k)) ≡ Some (actor.Named (started_member x)) =
       ap (λ (y : AWelcome). Some (actor.Named (record { client = kept_started y.doc y.rev y.session; birth = y.birth; conn = kept_new y.session y.rev; earlier = None }))) (sym q) in (
         not-test (is_guest (w.actors n)) i,
         refl,
         IsEvent true
-            (ap (λ y. shown.Entered verb.Login n y x.rev) session ∙ ap (shown.Entered verb.Login n (next_session there)) rev ∙ ap (shows_entered verb.Login n there) (sym u.free))
-            (subst (λ y. StandsFor told_by failures new y (kept_happens w ks (AskedLogin now n))) (sym (not-guest (w.actors n) i w now n None u.free))
-            (subst (StandsFor told_by failures new (login_if w now n None)) (sym (not-guest-kept (w.actors n) i w now ks n None u.free))
+            (ap (λ y. shown.Entered verb.Login n y x.rev) session ∙ ap (shown.Entered verb.Login n (next_session there)) rev ∙ ap (shows_entered verb.Login n there) (sym u.free)) (ap (shows_full (told.Login n)) a.2) (λ _. tt)
+            (subst (λ y. StandsFor told_by failures stops_alone alone (journal_after rs w now true (told.Login n)) new y (kept_happens w ks (AskedLogin now n))) (sym (not-guest (w.actors n) i w now n None u.free))
+            (subst (StandsFor told_by failures stops_alone alone (journal_after rs w now true (told.Login n)) new (login_if w now n None)) (sym (not-guest-kept (w.actors n) i w now ks n None u.free))
             (record {
               machine = m;
               id = j ∙ s.id;
@@ -175,23 +181,27 @@ module _ {D : Type 0} (told_by : D → Option Contents) (failures : D → ℕ) w
     shown = λ b h. ap (shows_entered (visit_verb r) n (opened w.pad now)) (fault b h);
     leaves = λ b h. (not-client (w.actors n) i w now n r (Some b) (fault b h), refl);
     room = λ k. refl;
+    adds = refl;
+    after = λ rs. refl;
+    decides = λ rs. tt;
+    same = refl;
     full = (refl, refl);
   }
     where
       fault : (b : PadBad) → outcome w.pad (Login (grant_of w n r) now) ≡ Refuses b → login_fault w.pad (grant_of w n r) ≡ Some b
       fault b h = login-refused-fault w.pad (grant_of w n r) now b h
 
-  pub visit-refused : (old new : World D) (w : WorldState) (ks : Kepts) (now : ℕ) (n : Name) (r : Bool) (b : PadBad) → is_client (w.actors n) ≡ false → StandsFor told_by failures old w ks
-      → IsAnswered told_by failures old.machine w.pad (Login (grant_of w n r) now) (Err b) new.machine → new.id ≡ old.id → new.actors ≡ old.actors
-      → Comes told_by failures w ks now (told.Guest n r) new (shown_or_failed (visit_verb r) (Some n) b)
+  pub visit-refused : (old new : World D) (w : WorldState) (ks : Kepts) (now : ℕ) (n : Name) (r : Bool) (b : PadBad) → is_client (w.actors n) ≡ false → StandsFor told_by failures stops_alone alone rs old w ks
+      → IsAnswered told_by failures stops_alone alone rs old.machine w.pad (Login (grant_of w n r) now) (Err b) new.machine → new.id ≡ old.id → new.actors ≡ old.actors
+      → Comes told_by failures stops_alone alone rs w ks now (told.Guest n r) new (shown_or_failed (visit_verb r) (Some n) b)
   visit-refused old new w ks now n r b i s a j e =
-      pad-refuses told_by failures old new w w ks ks w.pad now (told.Guest n r) (Login (grant_of w n r) now) (visit_verb r) (Some n) b (visit-refusing w ks now n r i) a
-      (λ m. with-pad told_by failures old new w ks w.pad s m j e)
+      pad-refuses told_by failures stops_alone alone rs old new w w ks ks w.pad now (told.Guest n r) (Login (grant_of w n r) now) (visit_verb r) (Some n) b (visit-refusing w ks now n r i) a
+      (λ m. with-pad told_by failures stops_alone alone rs rs old new w ks w.pad s m j e)
 
-  pub visited : (old new : World D) (w : WorldState) (ks : Kepts) (now : ℕ) (n : Name) (r : Bool) (x : Welcome) → is_client (w.actors n) ≡ false → StandsFor told_by failures old w ks
-      → IsAnswered told_by failures old.machine w.pad (Login (grant_of w n r) now) (Ok (LoginAnswer (welcome_of x))) new.machine → new.id ≡ old.id
+  pub visited : (old new : World D) (w : WorldState) (ks : Kepts) (now : ℕ) (n : Name) (r : Bool) (x : Welcome) → is_client (w.actors n) ≡ false → StandsFor told_by failures stops_alone alone rs old w ks
+      → IsAnswered told_by failures stops_alone alone rs old.machine w.pad (Login (grant_of w n r) now) (Ok (LoginAnswer (welcome_of x))) new.machine → new.id ≡ old.id
       → PutsActor old.actors n (actor.Guest (kept_new x.session x.rev)) new.actors
-      → Comes told_by failures w ks now (told.Guest n r) new (Ok (shown.Entered (visit_verb r) n x.session x.rev))
+      → Comes told_by failures stops_alone alone rs w ks now (told.Guest n r) new (Ok (shown.Entered (visit_verb r) n x.session x.rev))
   visited old new w ks now n r x i s a j p =
       let g = grant_of w n r in
       let there = opened w.pad now in
@@ -199,14 +209,14 @@ module _ {D : Type 0} (told_by : D → Option Contents) (failures : D → ℕ) w
       let q : welcome_of x ≡ welcome there g = same u.answer in
       let session = ap (λ (y : AWelcome). y.session) q in
       let rev = ap (λ (y : AWelcome). y.rev) q in
-      let m = subst (IsAt told_by failures new.machine) u.pad a.1 in
+      let m = subst (IsAt told_by failures stops_alone alone (journal_after rs w now true (told.Guest n r)) new.machine) u.pad a.1 in
       let is : Some (actor.Guest (kept_new (next_session there) (head (newest there)))) ≡ Some (actor.Guest (kept_new x.session x.rev)) =
       ap (λ (y : AWelcome). Some (actor.Guest (kept_new y.session y.rev))) (sym q) in (
         not-test (is_client (w.actors n)) i,
         refl,
         IsEvent true
-            (ap (λ y. shown.Entered (visit_verb r) n y x.rev) session ∙ ap (shown.Entered (visit_verb r) n (next_session there)) rev ∙ ap (shows_entered (visit_verb r) n there) (sym u.free))
-            (subst (λ y. StandsFor told_by failures new y ks) (sym (not-client (w.actors n) i w now n r None u.free))
+            (ap (λ y. shown.Entered (visit_verb r) n y x.rev) session ∙ ap (shown.Entered (visit_verb r) n (next_session there)) rev ∙ ap (shows_entered (visit_verb r) n there) (sym u.free)) (ap (shows_full (told.Guest n r)) a.2) (λ _. tt)
+            (subst (λ y. StandsFor told_by failures stops_alone alone (journal_after rs w now true (told.Guest n r)) new y ks) (sym (not-client (w.actors n) i w now n r None u.free))
             (record {
               machine = m;
               id = j ∙ s.id;

@@ -29,6 +29,7 @@ use Rattle.ep_world.specs.Telling.{kept_hears_down, shows_hears}
 use Rattle.ep_world.proofs.Conns.{hears-none, takes-telling}
 use Rattle.ep_world.proofs.Sends.{stands-as}
 use Rattle.ep_world.proofs.Turns.{IsTurn, Turns, keeps, turns}
+use Rattle.ep_history.specs.declared.record.Record.{Record}
 
 -- the same revisions are its own
 own-alike : (s : Session) (f : Option Submission) → is_kept_own s (sent_session f) ≡ is_own s f
@@ -43,12 +44,12 @@ known-pad w x v = go (is_own v.session x.client.sent)
     go true = (refl, refl, refl)
     go false = (refl, refl, refl)
 
-module _ {D : Type 0} (told_by : D → Option Contents) (failures : D → ℕ) where
+module _ {D : Type 0} (told_by : D → Option Contents) (failures : D → ℕ) (stops_alone : D → Bool) (alone : Bool) (rs : List Record) where
   -- ---- a client hears
 
   pub hears-down : (old new : World D) (w : WorldState) (ks : Kepts) (n : Name) (now : ℕ) (m m' : Member) (s : Shown) → IsRun w ks
-      → StandsFor told_by failures old w ks → new.machine ≡ old.machine → new.id ≡ old.id → IsTurn old.actors n m m' new.actors
-      → HearsDown n m m' s → Comes told_by failures w ks now (told.Hear n) new (Ok s)
+      → StandsFor told_by failures stops_alone alone rs old w ks → new.machine ≡ old.machine → new.id ≡ old.id → IsTurn old.actors n m m' new.actors
+      → HearsDown n m m' s → Comes told_by failures stops_alone alone rs w ks now (told.Hear n) new (Ok s)
   hears-down old new w ks n now m m' s r st machine id turn z = (
     ap is_client t.named,
     refl,
@@ -57,8 +58,8 @@ module _ {D : Type 0} (told_by : D → Option Contents) (failures : D → ℕ) w
         (z.4 ∙ ap (λ i. shows_hears n i z.0) client),
   )
     where
-      t : Turns told_by failures new w ks n m m'
-      t = turns told_by failures old new w ks n m m' st machine id turn
+      t : Turns told_by failures stops_alone alone rs new w ks n m m'
+      t = turns told_by failures stops_alone alone rs old new w ks n m m' st machine id turn
 
       x : AMember
       x = t.member
@@ -81,16 +82,16 @@ module _ {D : Type 0} (told_by : D → Option Contents) (failures : D → ℕ) w
       -- one that is heard, and what it makes of the client
       one : (first : ADown) (rest : List ADown) → x.conn.down ≡ first ∷ rest
           → m' ≡ record (member_of x (ks n)) { client = kept_hears_down (Some (down_of first)) (ks n); conn = conn_of (with_down x.conn rest) }
-          → s ≡ shows_hears n (ks n) (Some (down_of first)) → IsPlayed told_by failures w ks now (told.Hear n) new s
+          → s ≡ shows_hears n (ks n) (Some (down_of first)) → IsPlayed told_by failures stops_alone alone rs w ks now (told.Hear n) new s
       one (Closing word) rest e made is =
           let y = with_client (with_conn x (with_down x.conn rest)) (lost x.client) in
-          IsEvent true (is ∙ sym (showing (Closing word ∷ rest) e))
-          (stands-as told_by failures new _ _ _ _ (world (Closing word ∷ rest) e) (kepts (Closing word ∷ rest) e)
+          IsEvent true (is ∙ sym (showing (Closing word ∷ rest) e)) refl (λ _. tt)
+          (stands-as told_by failures stops_alone alone rs new _ _ _ _ (world (Closing word ∷ rest) e) (kepts (Closing word ∷ rest) e)
           (t.steps (with_actor w n (Named y)) y (kept_lost (ks n)) refl refl refl made))
       one (Spent rev) rest e made is =
           let y = with_client (with_conn x (with_down x.conn rest)) (without_sent x.client) in
-          IsEvent true (is ∙ sym (showing (Spent rev ∷ rest) e))
-          (stands-as told_by failures new _ _ _ _ (world (Spent rev ∷ rest) e) (kepts (Spent rev ∷ rest) e)
+          IsEvent true (is ∙ sym (showing (Spent rev ∷ rest) e)) refl (λ _. tt)
+          (stands-as told_by failures stops_alone alone rs new _ _ _ _ (world (Spent rev ∷ rest) e) (kepts (Spent rev ∷ rest) e)
           (t.steps (with_actor (answered w x.number) n (Named y)) y (kept_nop (ks n)) refl refl refl made))
       one (Revision v) rest e made is =
           let y = with_client (with_conn x (with_down x.conn rest)) (heard (birth_at w.pad x.birth) v x.client) in
@@ -98,16 +99,16 @@ module _ {D : Type 0} (told_by : D → Option Contents) (failures : D → ℕ) w
           let own : is_kept_own v.session (ks n).sent_in ≡ is_own v.session x.client.sent = ap (is_kept_own v.session) q.sent_in ∙ own-alike v.session x.client.sent in
           let same : shows_hears n (ks n) (Some (down_of (Revision v))) ≡ shows_heard n x.client (Revision v ∷ rest) =
           ap₂ (λ (b : Bool) (i : ℕ). if b then shown.Committed n (suc i) else shown.Heard n (suc i)) own q.rev in
-          IsEvent true (is ∙ same ∙ sym (showing (Revision v ∷ rest) e))
-          (stands-as told_by failures new _ _ _ _ (world (Revision v ∷ rest) e) (kepts (Revision v ∷ rest) e)
+          IsEvent true (is ∙ same ∙ sym (showing (Revision v ∷ rest) e)) refl (λ _. tt)
+          (stands-as told_by failures stops_alone alone rs new _ _ _ _ (world (Revision v ∷ rest) e) (kepts (Revision v ∷ rest) e)
           (t.steps (with_actor (known_after w x v) n (Named y)) y (kept_heard v (ks n)) k.0 k.1 (ap (λ (f : Name → AnActor). put f n (Named y)) k.2) made))
 
       go : (o : Option Down) → TakesDown (conn_of x.conn) o z.1 → m' ≡ record (member_of x (ks n)) { client = kept_hears_down o (ks n); conn = z.1 }
-          → s ≡ shows_hears n (ks n) o → IsPlayed told_by failures w ks now (told.Hear n) new s
+          → s ≡ shows_hears n (ks n) o → IsPlayed told_by failures stops_alone alone rs w ks now (told.Hear n) new s
       go None d made is =
           let h = hears-none x.conn z.1 d in
-          IsEvent true (is ∙ sym (showing [] h.0))
-          (stands-as told_by failures new _ _ _ _ (world [] h.0) (kepts [] h.0)
+          IsEvent true (is ∙ sym (showing [] h.0)) refl (λ _. tt)
+          (stands-as told_by failures stops_alone alone rs new _ _ _ _ (world [] h.0) (kepts [] h.0)
           (t.stays (made ∙ ap (λ (i : KeptConn). record (member_of x (ks n)) { conn = i }) h.1 ∙ sym t.is)))
       go (Some d) takes made is =
           let h = takes-telling x.conn d z.1 takes in
@@ -120,23 +121,23 @@ module _ {D : Type 0} (told_by : D → Option Contents) (failures : D → ℕ) w
   -- ---- a client is lost
 
   pub loses : (old new : World D) (w : WorldState) (ks : Kepts) (n : Name) (now : ℕ) (m m' : Member) (was : Bool) (s : Shown) → IsRun w ks
-      → StandsFor told_by failures old w ks → new.machine ≡ old.machine → new.id ≡ old.id → IsTurn old.actors n m m' new.actors
+      → StandsFor told_by failures stops_alone alone rs old w ks → new.machine ≡ old.machine → new.id ≡ old.id → IsTurn old.actors n m m' new.actors
       → was ≡ m.client.connected → m' ≡ kept_member_lost m → s ≡ (if was then shown.Done verb.Lose (Some n) else shown.Nothing verb.Lose n)
-      → Comes told_by failures w ks now (told.Lose n) new (Ok s)
+      → Comes told_by failures stops_alone alone rs w ks now (told.Lose n) new (Ok s)
   loses old new w ks n now m m' was s r st machine id turn is lost-now shows-it = (
     ap is_client t.named,
     refl,
     IsEvent true
         (shows-it
         ∙ ap (λ b. if b then shown.Done verb.Lose (Some n) else shown.Nothing verb.Lose n) (is ∙ ap (λ (i : Member). i.client.connected) t.is ∙ q.connected)
-        ∙ sym (ap (of_client (shown.Nothing verb.Lose n) (shows_lose n)) t.named))
-        (stands-as told_by failures new _ _ _ _ (ap (lose_by w n) t.named) (ap (kept_lose ks n) t.named)
+        ∙ sym (ap (of_client (shown.Nothing verb.Lose n) (shows_lose n)) t.named)) refl (λ _. tt)
+        (stands-as told_by failures stops_alone alone rs new _ _ _ _ (ap (lose_by w n) t.named) (ap (kept_lose ks n) t.named)
         (t.steps (with_actor w n (Named (lost_member x))) (lost_member x) (kept_lost (ks n)) refl refl refl
         (lost-now ∙ ap kept_member_lost t.is ∙ go (ks n).connected refl))),
   )
     where
-      t : Turns told_by failures new w ks n m m'
-      t = turns told_by failures old new w ks n m m' st machine id turn
+      t : Turns told_by failures stops_alone alone rs new w ks n m m'
+      t = turns told_by failures stops_alone alone rs old new w ks n m m' st machine id turn
 
       x : AMember
       x = t.member

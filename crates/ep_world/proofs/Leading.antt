@@ -1,5 +1,6 @@
 -- What events lead to is what some events of the rules lead to.
-use Rattle.std.proofs.Common.{◌≡◌, inl, inr, ℕ, List, [], ◌∷◌, ◌++◌, Option, Some, None, Ok, Err, refl, sym, ap, ◌∙◌, subst}
+use Rattle.std.specs.Prelude.{IsSome}
+use Rattle.std.proofs.Common.{◌≡◌, inl, inr, ℕ, Bool, List, [], ◌∷◌, ◌++◌, Option, Some, None, Ok, Err, refl, sym, ap, ◌∙◌, subst}
 use Rattle.ep_units.specs.Text.{Text}
 use Rattle.ep_outside.specs.Disk.{Contents}
 use Rattle.ep_outside.specs.declared.limits.Limits.{Limits}
@@ -15,9 +16,11 @@ use Rattle.ep_event.specs.declared.shown.Shown.{Shown}
 use Rattle.ep_world.specs.declared.bad.WorldBad.TheVariants as world_bad
 use Rattle.ep_world.specs.declared.world.World.{World}
 use Rattle.ep_world.specs.Events.{event_at, happened, kept_happened}
+use Rattle.ep_world.specs.Journal.{begun, journal_after}
 use Rattle.ep_world.specs.Leading.{Becomes, IsScheduled, Lead, Stays}
 use Rattle.ep_world.specs.Standing.{IsPlayed, IsRun, Plays, StandsFor, overfull_at}
 use Rattle.ep_world.specs.Standing.IsPlayed.{IsEvent, HasNoRoom}
+use Rattle.ep_history.specs.declared.record.Record.{Record}
 
 -- ---- runs
 
@@ -67,36 +70,56 @@ scheduled w ks r = record {
 
 -- ---- lists of events
 
-pub leads-more : (w : WorldState) (ks : Kepts) (es : List (ℕ × Told)) (v : WorldState) (js : Kepts) (e : ℕ × Told) (o : Option Event) → Lead w ks es v js → Becomes v e o
-    → Lead w ks (es ++ e ∷ []) (happened v o) (kept_happened v js o)
-leads-more w ks [] v js e o l b =
-    (o, subst (λ x. Becomes x e o) l.0 b, (ap (λ x. happened x o) l.0, ap (λ x. kept_happened x js o) l.0 ∙ ap (λ x. kept_happened w x o) l.1))
-leads-more w ks (x ∷ es) v js e o l b = (l.0, l.1, leads-more (happened w l.0) (kept_happened w ks l.0) es v js e o l.2 b)
+pub leads-more : (alone : Bool) (rs : List Record) (w : WorldState) (ks : Kepts) (es : List (ℕ × Told)) (qs : List Record) (v : WorldState) (js : Kepts) (e : ℕ × Told) (o : Option Event) (ps : List Record)
+    → Lead alone rs w ks es qs v js → Becomes alone qs v e o ps → Lead alone rs w ks (es ++ e ∷ []) ps (happened v o) (kept_happened v js o)
+leads-more alone rs w ks [] qs v js e o ps l b = (
+  o,
+  ps,
+  subst (λ q. Becomes alone q w e o ps) l.0 (subst (λ x. Becomes alone qs x e o ps) l.1 b),
+  (refl, ap (λ x. happened x o) l.1, ap (λ x. kept_happened x js o) l.1 ∙ ap (λ x. kept_happened w x o) l.2),
+)
+leads-more alone rs w ks (x ∷ es) qs v js e o ps l b = (l.0, l.1, l.2, leads-more alone l.1 (happened w l.0) (kept_happened w ks l.0) es qs v js e o ps l.3 b)
 
-module _ {D : Type 0} (told_by : D → Option Contents) (failures : D → ℕ) where
+module _ {D : Type 0} (told_by : D → Option Contents) (failures : D → ℕ) (stops_alone : D → Bool) (alone : Bool) where
   -- an event that is played, or isn't
-  played : (new : World D) (first w : WorldState) (ks : Kepts) (es : List (ℕ × Told)) (e : ℕ × Told) (shown : Shown) → Lead first nobodies es w ks → IsRun w ks
-      → IsPlayed told_by failures w ks e.0 e.1 new shown → Stays told_by failures new first (es ++ e ∷ [])
-  played new first w ks es e shown l r (IsEvent kept h s) =
+  played : (new : World D) (first w : WorldState) (ks : Kepts) (rs : List Record) (es : List (ℕ × Told)) (e : ℕ × Told) (shown : Shown) → Lead alone begun first nobodies es rs w ks → IsRun w ks
+      → IsPlayed told_by failures stops_alone alone rs w ks e.0 e.1 new shown → Stays told_by failures stops_alone alone new first (es ++ e ∷ [])
+  played new first w ks rs es e shown l r (IsEvent kept h room d s) =
       let o = event_at w e.0 kept e.1 in
-      record { world = happened w o; kepts = kept_happened w ks o; leads = leads-more first nobodies es w ks e o l (inl (kept, refl)); run = more w ks o r; stands = s }
-  played new first w ks es e shown l r (HasNoRoom n h s) =
+      let qs = journal_after rs w e.0 kept e.1 in
+      record {
+        journal = qs;
+        world = happened w o;
+        kepts = kept_happened w ks o;
+        leads = leads-more alone begun first nobodies es rs w ks e o qs l (inl (kept, refl, room, d, refl));
+        run = more w ks o r;
+        stands = s;
+      }
+  played new first w ks rs es e shown l r (HasNoRoom h s) =
       let o = overfull_at e.1 in
-      record { world = happened w o; kepts = kept_happened w ks o; leads = leads-more first nobodies es w ks e o l (inr (inr refl)); run = more w ks o r; stands = s }
+      record {
+        journal = rs;
+        world = happened w o;
+        kepts = kept_happened w ks o;
+        leads = leads-more alone begun first nobodies es rs w ks e o rs l (inr (inr (refl, subst IsSome (sym h) refl, refl)));
+        run = more w ks o r;
+        stands = s;
+      }
 
-  pub stays : (old new : World D) (first : WorldState) (es : List (ℕ × Told)) (e : ℕ × Told) (shown : Shown) → Stays told_by failures old first es
-      → Plays told_by failures old e.0 e.1 (Ok shown) new → Stays told_by failures new first (es ++ e ∷ [])
-  stays old new first es e shown s p = played new first s.world s.kepts es e shown s.leads s.run (p s.world s.kepts s.run s.stands).2
+  pub stays : (old new : World D) (first : WorldState) (es : List (ℕ × Told)) (e : ℕ × Told) (shown : Shown) → Stays told_by failures stops_alone alone old first es
+      → Plays told_by failures stops_alone old e.0 e.1 (Ok shown) new → Stays told_by failures stops_alone alone new first (es ++ e ∷ [])
+  stays old new first es e shown s p = played new first s.world s.kepts s.journal es e shown s.leads s.run (p alone s.journal s.world s.kepts s.run s.stands).2
 
   -- one that isn't played, for which the world stands as before
-  pub passes : (new : World D) (first w : WorldState) (ks : Kepts) (es : List (ℕ × Told)) (e : ℕ × Told) → Lead first nobodies es w ks → IsRun w ks
-      → StandsFor told_by failures new w ks → Stays told_by failures new first (es ++ e ∷ [])
-  passes new first w ks es e l r s = record { world = w; kepts = ks; leads = leads-more first nobodies es w ks e None l (inr (inl refl)); run = r; stands = s }
+  pub passes : (new : World D) (first w : WorldState) (ks : Kepts) (rs : List Record) (es : List (ℕ × Told)) (e : ℕ × Told) → Lead alone begun first nobodies es rs w ks → IsRun w ks
+      → StandsFor told_by failures stops_alone alone rs new w ks → Stays told_by failures stops_alone alone new first (es ++ e ∷ [])
+  passes new first w ks rs es e l r s =
+      record { journal = rs; world = w; kepts = ks; leads = leads-more alone begun first nobodies es rs w ks e None rs l (inr (inl (refl, refl))); run = r; stands = s }
 
-  pub unknown : (old new : World D) (first : WorldState) (es : List (ℕ × Told)) (e : ℕ × Told) → Stays told_by failures old first es
-      → Plays told_by failures old e.0 e.1 (Err world_bad.Unknown) new → Stays told_by failures new first (es ++ e ∷ [])
-  unknown old new first es e s p = passes new first s.world s.kepts es e s.leads s.run (p s.world s.kepts s.run s.stands).1
+  pub unknown : (old new : World D) (first : WorldState) (es : List (ℕ × Told)) (e : ℕ × Told) → Stays told_by failures stops_alone alone old first es
+      → Plays told_by failures stops_alone old e.0 e.1 (Err world_bad.Unknown) new → Stays told_by failures stops_alone alone new first (es ++ e ∷ [])
+  unknown old new first es e s p = passes new first s.world s.kepts s.journal es e s.leads s.run (p alone s.journal s.world s.kepts s.run s.stands).1
 
-  pub no-text : (old new : World D) (first : WorldState) (es : List (ℕ × Told)) (e : ℕ × Told) → Stays told_by failures old first es
-      → Plays told_by failures old e.0 e.1 (Err world_bad.NoText) new → Stays told_by failures new first (es ++ e ∷ [])
-  no-text old new first es e s p = passes new first s.world s.kepts es e s.leads s.run (p s.world s.kepts s.run s.stands).1
+  pub no-text : (old new : World D) (first : WorldState) (es : List (ℕ × Told)) (e : ℕ × Told) → Stays told_by failures stops_alone alone old first es
+      → Plays told_by failures stops_alone old e.0 e.1 (Err world_bad.NoText) new → Stays told_by failures stops_alone alone new first (es ++ e ∷ [])
+  no-text old new first es e s p = passes new first s.world s.kepts s.journal es e s.leads s.run (p alone s.journal s.world s.kepts s.run s.stands).1

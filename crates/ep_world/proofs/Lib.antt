@@ -1,4 +1,5 @@
 pub mod Calls
+pub mod Journal
 pub mod Seating
 pub mod Brought
 pub mod ByServer

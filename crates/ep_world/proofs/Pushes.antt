@@ -29,8 +29,10 @@ use Rattle.ep_schedule.specs.World.{Name, Conn, Member as AMember, WorldState, c
 use Rattle.ep_schedule.specs.World.Actor.{Named}
 use Rattle.ep_schedule.specs.World.Word.{UserDup, PadDeleted}
 use Rattle.ep_pad.specs.Held.{Held}
-use Rattle.ep_pad.specs.Standing.{Steps, replied}
-use Rattle.ep_pad_state.specs.Answering.{fetched_of}
+use Rattle.ep_history.specs.Machine.{MachineState, IsKeptState}
+use Rattle.ep_pad.specs.Crashes.{IsStepOfFirst}
+use Rattle.ep_pad.specs.Standing.{Stands}
+use Rattle.ep_pad_state.specs.Answering.{first_of}
 use Rattle.ep_pad_state.specs.declared.answers.Fetched.{Fetched}
 use Rattle.ep_event.specs.declared.event.Event.TheVariants as told
 use Rattle.ep_event.specs.declared.shown.Shown.{Shown}
@@ -41,19 +43,21 @@ use Rattle.ep_world.specs.declared.telling.Pushed.{Pushed}
 use Rattle.ep_world.specs.declared.telling.Pushed.TheVariants as pushed
 use Rattle.ep_world.specs.declared.world.World.{World}
 use Rattle.ep_world.specs.Actors.{PutsActor, actor_of, found, member_of}
-use Rattle.ep_world.specs.Conns.{KeptConn, conn_of, kept_closing_if, kept_tells_spent}
+use Rattle.ep_world.specs.Conns.{KeptConn, conn_of, kept_closing_if, kept_tells, kept_tells_spent}
 use Rattle.ep_world.specs.Events.{is_client, of_client}
 use Rattle.ep_world.specs.Pushing.{TellsIf, TellsMember, TellsOf}
 use Rattle.ep_world.specs.Pushing.IsTold.{IsFetched, IsDead}
 use Rattle.ep_world.specs.Shows.{shows_ended, shows_next, shows_push, shows_seat, shows_turn}
+use Rattle.ep_world.specs.Journal.{behind, record_in}
 use Rattle.ep_world.specs.Standing.{Comes, IsAnswered, IsAt, IsRun, StandsBut, StandsFor, answer_of, pad_after}
 use Rattle.ep_world.specs.Standing.IsPlayed.{IsEvent}
 use Rattle.ep_world.specs.Telling.{ended_by, pushed_by, pushed_next, pushed_rev, shows_pushed, told_next, told_rev}
 use Rattle.ep_world.proofs.Brought.{unless-answers, unless-refuses-answer}
 use Rattle.ep_world.proofs.Conns.{conn-closing, conn-spends, conn-tells}
-use Rattle.ep_world.proofs.Calls.{answered}
+use Rattle.ep_world.proofs.Calls.{answered-once}
 use Rattle.ep_world.proofs.Seating.{is-named, lent, put-actors-kept, put-same}
 use Rattle.ep_world.proofs.Turns.{IsTurn, keeps}
+use Rattle.ep_history.specs.declared.record.Record.{Record}
 
 -- ---- the first of what is fetched
 
@@ -97,6 +101,26 @@ pushed-pick sent vs (h ∷ hs) = refl
 told-pick : (c : KeptConn) (vs : List Rev) (hs : List ℕ) → told_next hs vs c ≡ pick c.sent (kept_tells_spent c) (told_rev vs c) hs
 told-pick c vs [] = refl
 told-pick c vs (h ∷ hs) = refl
+
+-- of what is fetched the next revision tells as much
+
+rev-first : {A : Type 0} (none : A) (some : Rev → A) (vs : List Rev) (get : List Rev → A) → get [] ≡ none → ((v : Rev) (us : List Rev) → get (v ∷ us) ≡ some v) → get (take 1 vs) ≡ get vs
+rev-first none some [] get e h = refl
+rev-first none some (v ∷ vs) get e h = h v (take 0 vs) ∙ sym (h v vs)
+
+pub first-pushed : (sent : ℕ) (f : AFetched) → pushed_next sent (first_of 1 sent f).nops (first_of 1 sent f).revs ≡ pushed_next sent f.nops f.revs
+first-pushed sent f =
+    let vs = take 1 f.revs in
+    pushed-pick sent vs (first_of 1 sent f).nops ∙ pick-taken sent (sent + length vs) (omega arith) (pushed.Spent sent) (pushed_rev sent vs) f.nops
+    ∙ ap (λ b. pick sent (pushed.Spent sent) b f.nops) (rev-first pushed.Nothing (λ _. pushed.Revision (suc sent)) f.revs (pushed_rev sent) refl (λ v us. refl))
+    ∙ sym (pushed-pick sent f.revs f.nops)
+
+pub first-told : (c : KeptConn) (f : AFetched) → told_next (first_of 1 c.sent f).nops (first_of 1 c.sent f).revs c ≡ told_next f.nops f.revs c
+first-told c f =
+    let vs = take 1 f.revs in
+    told-pick c vs (first_of 1 c.sent f).nops ∙ pick-taken c.sent (c.sent + length vs) (omega arith) (kept_tells_spent c) (told_rev vs c) f.nops
+    ∙ ap (λ b. pick c.sent (kept_tells_spent c) b f.nops) (rev-first c (λ v. kept_tells v c) f.revs (λ us. told_rev us c) refl (λ v us. refl))
+    ∙ sym (told-pick c f.revs f.nops)
 
 drop-none : {A : Type 0} (xs : List A) (i : ℕ) → at xs i ≡ None → drop i xs ≡ []
 drop-none [] zero e = refl
@@ -278,53 +302,59 @@ module _ (w : WorldState) (n : Name) (m : AMember) where
   pushes true p d t (IsFetched f o pq dq) = fetched p d f t o pq dq
   pushes true p d t (IsDead why o pq dq) = ended p d why t o pq dq
 
-module _ {D : Type 0} (told_by : D → Option Contents) (failures : D → ℕ) where
+module _ {D : Type 0} (told_by : D → Option Contents) (failures : D → ℕ) (stops_alone : D → Bool) (alone : Bool) (rs : List Record) where
   -- what is fetched
-  pub fetches : (old new : Held D) (pad : PadState) (s : Session) (from seen : ℕ) (x : Fetched) → IsAnswered told_by failures old pad (Fetch s from seen) (Ok (FetchAnswer (fetched_of x))) new
-      → (outcome pad (Fetch s from seen) ≡ Answers (FetchAnswer (fetched_of x)) pad) × IsAt told_by failures new pad
-  fetches old new pad s from seen x a =
+  pub fetches : (old new : Held D) (pad : PadState) (s : Session) (from seen : ℕ) (f : AFetched) → IsAnswered told_by failures stops_alone alone rs old pad (Fetch s from seen) (Ok (FetchAnswer f)) new
+      → (outcome pad (Fetch s from seen) ≡ Answers (FetchAnswer f) pad) × IsAt told_by failures stops_alone alone rs new pad
+  fetches old new pad s from seen f a =
       let u = unless-answers (fetch_fault pad s from) (Answers (FetchAnswer (fetch pad s from seen)) pad) _ a.0 in
-      (u.1 ∙ ap (λ y. Answers y pad) (some_same (sym (ap answer_of u.1) ∙ a.0)), subst (λ o. IsAt told_by failures new (pad_after pad o)) u.1 a.1)
+      (u.1 ∙ ap (λ y. Answers y pad) (some_same (sym (ap answer_of u.1) ∙ a.0)), subst (λ o. IsAt told_by failures stops_alone alone (behind rs (record_in o)) new (pad_after pad o)) u.1 a.1)
 
-  -- of a connection that the code holds in parts
-  abbrev pub Fetches : Held D → KeptConn → Result Fetched PadBad → Held D → Type 0
-  Fetches old c r new = Steps told_by failures old (Fetch c.session c.sent c.nops) (λ x. FetchAnswer (fetched_of x)) r new
+  -- of a connection that the code holds in parts: the next revision alone
+  abbrev pub FetchesNext : Held D → KeptConn → Result Fetched PadBad → Held D → Type 0
+  FetchesNext old c r new =
+      (st : MachineState) → IsKeptState st → Stands told_by failures old st
+      → (next : MachineState) × IsStepOfFirst st c.session c.sent c.nops 1 r next × Stands told_by failures new next × (stops_alone new.disk ≡ stops_alone old.disk)
 
-  asked : (old new : Held D) (pad : PadState) (c i : KeptConn) (r : Result Fetched PadBad) → i ≡ c → IsAt told_by failures old pad → Fetches old i r new
-      → IsAnswered told_by failures old pad (Fetch c.session c.sent c.nops) (replied (λ x. FetchAnswer (fetched_of x)) r) new
-  asked old new pad c i r e a makes =
-      answered told_by failures old new pad (Fetch c.session c.sent c.nops) (replied (λ x. FetchAnswer (fetched_of x)) r) a (subst (λ k. Fetches old k r new) e makes)
+  asked : (old new : Held D) (pad : PadState) (c i : KeptConn) (r q : Result Fetched PadBad) → i ≡ c → r ≡ q → (a : IsAt told_by failures stops_alone alone rs old pad) → FetchesNext old i r new
+      → (next : MachineState) × IsStepOfFirst a.state c.session c.sent c.nops 1 q next × Stands told_by failures new next × (stops_alone new.disk ≡ stops_alone old.disk)
+  asked old new pad c i r q e is a makes = subst (λ (x : KeptConn × Result Fetched PadBad). FetchesNext old x.0 x.1 new) (λ j. (e j, is j)) makes a.state a.kept a.stands
 
-  pub tells-fetched : (old new : Held D) (pad : PadState) (c i d : KeptConn) (r : Result Fetched PadBad) (x : Fetched) (p : Pushed) → i ≡ c → IsAt told_by failures old pad → Fetches old i r new
-      → r ≡ Ok x → p ≡ pushed_next c.sent x.nops.items x.revs.items → d ≡ told_next x.nops.items x.revs.items c → TellsOf told_by failures pad c new d p
+  pub tells-fetched : (old new : Held D) (pad : PadState) (c i d : KeptConn) (r : Result Fetched PadBad) (x : Fetched) (p : Pushed) → i ≡ c → IsAt told_by failures stops_alone alone rs old pad → FetchesNext old i r new
+      → r ≡ Ok x → p ≡ pushed_next c.sent x.nops.items x.revs.items → d ≡ told_next x.nops.items x.revs.items c → TellsOf told_by failures stops_alone alone rs pad c new d p
   tells-fetched old new pad c i d r x p e a makes is pq dq =
-      let h = asked old new pad c i r e a makes in
-      let f = fetches old new pad c.session c.sent c.nops x
-      (subst (λ y. IsAnswered told_by failures old pad (Fetch c.session c.sent c.nops) (replied (λ x. FetchAnswer (fetched_of x)) y) new) is h) in
-      (IsFetched (fetched_of x) f.0 pq dq, f.1)
+      let n = asked old new pad c i r (Ok x) e is a makes in
+      let whole = n.1.0 in
+      let reply = Ok (FetchAnswer whole) in
+      let h = answered-once told_by failures stops_alone alone rs old new pad (Fetch c.session c.sent c.nops) reply a (n.0, n.1.1, n.2, n.3) in
+      let f = fetches old new pad c.session c.sent c.nops whole h in (
+        IsFetched whole f.0 (pq ∙ ap (λ (y : AFetched). pushed_next c.sent y.nops y.revs) n.1.2 ∙ first-pushed c.sent whole)
+            (dq ∙ ap (λ (y : AFetched). told_next y.nops y.revs c) n.1.2 ∙ first-told c whole),
+        f.1,
+      )
 
-  pub tells-dead : (old new : Held D) (pad : PadState) (c i d : KeptConn) (r : Result Fetched PadBad) (why : Why) (p : Pushed) → i ≡ c → IsAt told_by failures old pad → Fetches old i r new
-      → r ≡ Err (bad.Dead why) → p ≡ pushed_by (ended_by why) → d ≡ kept_closing_if (ended_by why) c → TellsOf told_by failures pad c new d p
+  pub tells-dead : (old new : Held D) (pad : PadState) (c i d : KeptConn) (r : Result Fetched PadBad) (why : Why) (p : Pushed) → i ≡ c → IsAt told_by failures stops_alone alone rs old pad → FetchesNext old i r new
+      → r ≡ Err (bad.Dead why) → p ≡ pushed_by (ended_by why) → d ≡ kept_closing_if (ended_by why) c → TellsOf told_by failures stops_alone alone rs pad c new d p
   tells-dead old new pad c i d r why p e a makes is pq dq =
-      let h = asked old new pad c i r e a makes in
-      let f = subst (λ y. IsAnswered told_by failures old pad (Fetch c.session c.sent c.nops) (replied (λ x. FetchAnswer (fetched_of x)) y) new) is h in
+      let n = asked old new pad c i r (Err (bad.Dead why)) e is a makes in
+      let f = answered-once told_by failures stops_alone alone rs old new pad (Fetch c.session c.sent c.nops) (Err (bad.Dead why)) a (n.0, n.1, n.2, n.3) in
       (IsDead why f.0 pq dq, f.1)
 
   pub tells-member : (machine : Held D) (pad : PadState) (m : Member) (d : KeptConn) (r : Result Pushed WorldBad) → (m.client.connected && not m.conn.closed) ≡ true
-      → IfOk r (TellsOf told_by failures pad m.conn machine d) → IfOk r (TellsMember told_by failures pad m machine (record m { conn = d }))
+      → IfOk r (TellsOf told_by failures stops_alone alone rs pad m.conn machine d) → IfOk r (TellsMember told_by failures stops_alone alone rs pad m machine (record m { conn = d }))
   tells-member machine pad m d (Ok p) e h = (subst (λ b. TellsIf b pad m.conn d p) (sym e) h.0, refl, h.1)
   tells-member machine pad m d (Err b) e h = tt
 
   -- a client is sent the next
   pub push-comes : (mid new : World D) (w : WorldState) (ks : Kepts) (now : ℕ) (n : Name) (m : AMember) (s : Shown) (d : KeptConn) → w.actors n ≡ Named m
-      → StandsBut told_by failures mid n w ks → IsAt told_by failures new.machine w.pad → new.id ≡ mid.id
+      → StandsBut told_by failures stops_alone alone rs mid n w ks → IsAt told_by failures stops_alone alone rs new.machine w.pad → new.id ≡ mid.id
       → PutsActor mid.actors n (actor.Named (record (member_of m (ks n)) { conn = d })) new.actors → IsPush w n m s d
-      → Comes told_by failures w ks now (told.Push n) new (Ok s)
+      → Comes told_by failures stops_alone alone rs w ks now (told.Push n) new (Ok s)
   push-comes mid new w ks now n m s d is but at same puts push = (
     ap is_client is,
     refl,
-    IsEvent true (push.shown ∙ sym (ap (of_client (shows_pushed n pushed.Nothing) (shows_push w n)) is))
-        (subst (λ v. StandsFor told_by failures new v ks) (sym (ap (push_by w n) is)) (go push.world)),
+    IsEvent true (push.shown ∙ sym (ap (of_client (shows_pushed n pushed.Nothing) (shows_push w n)) is)) refl (λ _. tt)
+        (subst (λ v. StandsFor told_by failures stops_alone alone rs new v ks) (sym (ap (push_by w n) is)) (go push.world)),
   )
     where
       puts-conn : PutsActor mid.actors n (actor.Named (member_of (with_conn m push.conn) (ks n))) new.actors
@@ -334,21 +364,21 @@ module _ {D : Type 0} (told_by : D → Option Contents) (failures : D → ℕ) w
       actors = put-actors-kept mid.actors new.actors w ks n (Named (with_conn m push.conn)) (actor.Named (member_of (with_conn m push.conn) (ks n))) but.actors puts-conn refl
 
       go : ((push_by w n (Named m) ≡ w) × (push.conn ≡ m.conn)) ⊎ (push_by w n (Named m) ≡ with_actor w n (Named (with_conn m push.conn)))
-          → StandsFor told_by failures new (push_by w n (Named m)) ks
-      go (inr e) = subst (λ v. StandsFor told_by failures new v ks) (sym e) (record { machine = at; id = same ∙ but.id; actors = actors })
-      go (inl e) = subst (λ v. StandsFor told_by failures new v ks) (sym e.0) (record {
+          → StandsFor told_by failures stops_alone alone rs new (push_by w n (Named m)) ks
+      go (inr e) = subst (λ v. StandsFor told_by failures stops_alone alone rs new v ks) (sym e) (record { machine = at; id = same ∙ but.id; actors = actors })
+      go (inl e) = subst (λ v. StandsFor told_by failures stops_alone alone rs new v ks) (sym e.0) (record {
         machine = at;
         id = same ∙ but.id;
         actors = λ q. actors q ∙ ap (λ x. actor_of x (ks q)) (put-same w.actors n (Named (with_conn m push.conn)) (is ∙ ap (λ c. Named (with_conn m c)) (sym e.1)) q);
       })
 
   -- its turn
-  pub push-turn : (old new : World D) (w : WorldState) (ks : Kepts) (n : Name) (now : ℕ) (m m' : Member) (p : Pushed) (s : Shown) → IsRun w ks → StandsFor told_by failures old w ks
-      → new.id ≡ old.id → IsTurn old.actors n m m' new.actors → ((pad : PadState) → IsAt told_by failures old.machine pad → TellsMember told_by failures pad m new.machine m' p)
-      → s ≡ shows_pushed n p → Comes told_by failures w ks now (told.Push n) new (Ok s)
+  pub push-turn : (old new : World D) (w : WorldState) (ks : Kepts) (n : Name) (now : ℕ) (m m' : Member) (p : Pushed) (s : Shown) → IsRun w ks → StandsFor told_by failures stops_alone alone rs old w ks
+      → new.id ≡ old.id → IsTurn old.actors n m m' new.actors → ((pad : PadState) → IsAt told_by failures stops_alone alone rs old.machine pad → TellsMember told_by failures stops_alone alone rs pad m new.machine m' p)
+      → s ≡ shows_pushed n p → Comes told_by failures stops_alone alone rs w ks now (told.Push n) new (Ok s)
   push-turn old new w ks n now m m' p s run stands id t tells shown =
-      subst (λ x. Comes told_by failures w ks now (told.Push n) new (Ok x)) (sym shown)
-      (push-comes mid new w ks now n x (shows_pushed n p) m'.conn z.1 (lent told_by failures old mid n w ks stands stands.machine refl t.without) h.2 id puts
+      subst (λ x. Comes told_by failures stops_alone alone rs w ks now (told.Push n) new (Ok x)) (sym shown)
+      (push-comes mid new w ks now n x (shows_pushed n p) m'.conn z.1 (lent told_by failures stops_alone alone rs old mid n w ks stands stands.machine refl t.without) h.2 id puts
       (pushes w n x (may w n x) p m'.conn refl told-so))
     where
       mid : World D
@@ -360,7 +390,7 @@ module _ {D : Type 0} (told_by : D → Option Contents) (failures : D → ℕ) w
       x : AMember
       x = z.0
 
-      h : TellsMember told_by failures w.pad m new.machine m' p
+      h : TellsMember told_by failures stops_alone alone rs w.pad m new.machine m' p
       h = tells w.pad stands.machine
 
       same : (m.client.connected && not m.conn.closed) ≡ may w n x

@@ -1,9 +1,9 @@
 -- Clients come back.
-use Rattle.std.proofs.Common.{◌≡◌, ℕ, Bool, true, false, [], Option, Some, None, Ok, Err, if◌then◌else◌, refl, sym, ap, ◌∙◌, subst}
+use Rattle.std.proofs.Common.{◌≡◌, ℕ, Bool, List, true, false, [], Option, Some, None, Ok, Err, if◌then◌else◌, refl, sym, ap, ◌∙◌, subst}
 use Rattle.ep_units.specs.declared.grant.Grant.{Grant}
 use Rattle.ep_outside.specs.Disk.{Contents}
 use Rattle.ep_history.specs.Client.{lost}
-use Rattle.ep_history.specs.Entries.{Entry, outcome}
+use Rattle.ep_history.specs.Entries.{Entry, outcome, unless}
 use Rattle.ep_history.specs.Entries.Answer.{ResumeAnswer}
 use Rattle.ep_history.specs.Entries.Entry.{Resume}
 use Rattle.ep_history.specs.Entries.Outcome.{Refuses, Answers}
@@ -17,7 +17,6 @@ use Rattle.ep_schedule.specs.Kepts.{Kepts, kept_happens, kept_lose, kept_put, ke
 use Rattle.ep_schedule.specs.World.{Name, Member as AMember, WorldState, author_of, grant_of, lose_by, lost_member, resume_by, resume_if, resume_member, with_actor, with_client, with_conn, with_down}
 use Rattle.ep_schedule.specs.World.Actor.{Named}
 use Rattle.ep_schedule.specs.World.Event.{Resume as AskedResume}
-use Rattle.ep_pad.specs.Standing.{Makes}
 use Rattle.ep_pad_state.specs.Answering.{catch_up_of}
 use Rattle.ep_pad_state.specs.declared.answers.CatchUp.{CatchUp}
 use Rattle.ep_event.specs.declared.event.Event.TheVariants as told
@@ -32,13 +31,15 @@ use Rattle.ep_world.specs.Events.{is_client, of_client}
 use Rattle.ep_world.specs.Failing.{shown_or_failed}
 use Rattle.ep_world.specs.Members.{kept_member_lost, kept_member_resumed}
 use Rattle.ep_world.specs.Shows.{shows_resume, shows_resumed}
+use Rattle.ep_world.specs.Journal.{behind, record_in}
 use Rattle.ep_world.specs.Standing.{Comes, IsAnswered, IsAt, IsRun, StandsBut, StandsFor, answer_of, pad_after}
 use Rattle.ep_world.specs.Standing.IsPlayed.{IsEvent}
 use Rattle.ep_world.proofs.Brought.{unless-answers, unless-refuses-answer}
 use Rattle.ep_world.proofs.ByServer.{Refusing, pad-refuses}
-use Rattle.ep_world.proofs.Calls.{answered}
+use Rattle.ep_world.proofs.Calls.{MakesMarked, answered}
 use Rattle.ep_world.proofs.Seating.{is-named, lent, put-actors}
 use Rattle.ep_world.proofs.Turns.{IsTurn, keeps}
+use Rattle.ep_history.specs.declared.record.Record.{Record}
 
 -- ---- a client that is lost
 
@@ -106,7 +107,7 @@ module _ (w : WorldState) (ks : Kepts) (now : ℕ) (n : Name) (m : AMember) wher
       ∙ ap (λ r. shows_resumed n w.pad (resume_fault w.pad (grant_of w n false) r (Some m.birth) None)) (sym rev)
       ∙ ap (shows_resumed n w.pad) e
 
-module _ {D : Type 0} (told_by : D → Option Contents) (failures : D → ℕ) where
+module _ {D : Type 0} (told_by : D → Option Contents) (failures : D → ℕ) (stops_alone : D → Bool) (alone : Bool) (rs : List Record) where
   resume-refusing : (w : WorldState) (ks : Kepts) (now : ℕ) (n : Name) (m : AMember) → w.actors n ≡ Named m → (ks n).rev ≡ m.client.rev
       → Refusing w (with_actor w n (Named (lost_member m))) ks (kept_put ks n (kept_lost (ks n))) w.pad now (told.Resume n) (asks w ks now n m) verb.Resume (Some n)
   resume-refusing w ks now n m is rev = record {
@@ -115,18 +116,27 @@ module _ {D : Type 0} (told_by : D → Option Contents) (failures : D → ℕ) w
     shown = λ b h. shows-as w ks now n m is rev (Some b) (faulty b h);
     leaves = λ b h. (resumes-as w ks now n m is rev (Some b) (faulty b h), kept-as w ks now n m is (Some b) (faulty b h));
     room = λ k. refl;
+    adds = unrecorded (fault w ks now n m);
+    after = λ rs. refl;
+    decides = λ rs. tt;
+    same = refl;
     full = (ap (lose_by w n) is, ap (kept_lose ks n) is);
   }
     where
       faulty : (b : PadBad) → outcome w.pad (asks w ks now n m) ≡ Refuses b → fault w ks now n m ≡ Some b
       faulty b h = unless-refuses-answer (fault w ks now n m) _ _ b h
 
+      -- a resumption is never recorded
+      unrecorded : (f : Option PadBad) → None ≡ record_in (unless f (Answers (ResumeAnswer (catch_up w.pad)) (with_session w.pad (author_of n) false)))
+      unrecorded None = refl
+      unrecorded (Some b) = refl
+
   pub resume-refused : (mid new : World D) (w : WorldState) (ks : Kepts) (now : ℕ) (n : Name) (m : AMember) (b : PadBad) → w.actors n ≡ Named m → (ks n).rev ≡ m.client.rev
-      → (ks n).connected ≡ m.client.connected → StandsBut told_by failures mid n w ks → IsAnswered told_by failures mid.machine w.pad (asks w ks now n m) (Err b) new.machine
+      → (ks n).connected ≡ m.client.connected → StandsBut told_by failures stops_alone alone rs mid n w ks → IsAnswered told_by failures stops_alone alone rs mid.machine w.pad (asks w ks now n m) (Err b) new.machine
       → new.id ≡ mid.id → PutsActor mid.actors n (actor.Named (kept_member_lost (member_of m (ks n)))) new.actors
-      → Comes told_by failures w ks now (told.Resume n) new (shown_or_failed verb.Resume (Some n) b)
+      → Comes told_by failures stops_alone alone rs w ks now (told.Resume n) new (shown_or_failed verb.Resume (Some n) b)
   resume-refused mid new w ks now n m b is rev on but a i puts =
-      pad-refuses told_by failures mid new w (with_actor w n (Named (lost_member m))) ks (kept_put ks n (kept_lost (ks n))) w.pad now (told.Resume n) (asks w ks now n m) verb.Resume (Some n) b
+      pad-refuses told_by failures stops_alone alone rs mid new w (with_actor w n (Named (lost_member m))) ks (kept_put ks n (kept_lost (ks n))) w.pad now (told.Resume n) (asks w ks now n m) verb.Resume (Some n) b
       (resume-refusing w ks now n m is rev) a
       (λ at. record {
         machine = at;
@@ -136,19 +146,19 @@ module _ {D : Type 0} (told_by : D → Option Contents) (failures : D → ℕ) w
       })
 
   pub resumed : (mid new : World D) (w : WorldState) (ks : Kepts) (now : ℕ) (n : Name) (m : AMember) (x : CatchUp) → w.actors n ≡ Named m → (ks n).rev ≡ m.client.rev
-      → (ks n).connected ≡ m.client.connected → StandsBut told_by failures mid n w ks
-      → IsAnswered told_by failures mid.machine w.pad (asks w ks now n m) (Ok (ResumeAnswer (catch_up_of x))) new.machine
+      → (ks n).connected ≡ m.client.connected → StandsBut told_by failures stops_alone alone rs mid n w ks
+      → IsAnswered told_by failures stops_alone alone rs mid.machine w.pad (asks w ks now n m) (Ok (ResumeAnswer (catch_up_of x))) new.machine
       → new.id ≡ mid.id → PutsActor mid.actors n (actor.Named (kept_member_resumed x.session x.head (kept_member_lost (member_of m (ks n))))) new.actors
-      → Comes told_by failures w ks now (told.Resume n) new (Ok (shown.Resumed n x.session x.head))
+      → Comes told_by failures stops_alone alone rs w ks now (told.Resume n) new (Ok (shown.Resumed n x.session x.head))
   resumed mid new w ks now n m x is rev on but a i puts = (
     ap is_client is,
     refl,
     IsEvent true
-        (ap (λ y. shown.Resumed n y x.head) session ∙ ap (shown.Resumed n (next_session w.pad)) heads ∙ sym (shows-as w ks now n m is rev None u.0))
-        (subst (λ y. StandsFor told_by failures new y (kept_happens w ks (AskedResume n))) (sym (resumes-as w ks now n m is rev None u.0))
-        (subst (StandsFor told_by failures new (resume_if w n (lost_member m) None)) (sym (kept-as w ks now n m is None u.0))
+        (ap (λ y. shown.Resumed n y x.head) session ∙ ap (shown.Resumed n (next_session w.pad)) heads ∙ sym (shows-as w ks now n m is rev None u.0)) refl (λ _. tt)
+        (subst (λ y. StandsFor told_by failures stops_alone alone rs new y (kept_happens w ks (AskedResume n))) (sym (resumes-as w ks now n m is rev None u.0))
+        (subst (StandsFor told_by failures stops_alone alone rs new (resume_if w n (lost_member m) None)) (sym (kept-as w ks now n m is None u.0))
         (record {
-          machine = subst (λ o. IsAt told_by failures new.machine (pad_after w.pad o)) u.1 a.1;
+          machine = subst (λ o. IsAt told_by failures stops_alone alone (behind rs (record_in o)) new.machine (pad_after w.pad o)) u.1 a.1;
           id = i ∙ but.id;
           actors = put-actors mid.actors new.actors w ks n (Named (resume_member w.pad (lost_member m))) comes
               (actor.Named (kept_member_resumed x.session x.head (kept_member_lost (member_of m (ks n))))) but.actors puts put-is;
@@ -184,15 +194,15 @@ module _ {D : Type 0} (told_by : D → Option Contents) (failures : D → ℕ) w
           ∙ ap (λ y. Some (actor.Named (kept_member_resumed x.session x.head y))) (sym (member-lost m (ks n) on))
 
   -- its turn
-  pub refused-turn : (old new : World D) (w : WorldState) (ks : Kepts) (n : Name) (now : ℕ) (m l : Member) (g : Grant) (r : ℕ) (b : PadBad) → IsRun w ks → StandsFor told_by failures old w ks
+  pub refused-turn : (old new : World D) (w : WorldState) (ks : Kepts) (n : Name) (now : ℕ) (m l : Member) (g : Grant) (r : ℕ) (b : PadBad) → IsRun w ks → StandsFor told_by failures stops_alone alone rs old w ks
       → new.id ≡ old.id → IsTurn old.actors n m l new.actors → l ≡ kept_member_lost m → g ≡ grant_of w n false → r ≡ l.client.rev
-      → Makes told_by failures old.machine (Resume g r (Some l.birth) None now) (Err b) new.machine
-      → Comes told_by failures w ks now (told.Resume n) new (shown_or_failed verb.Resume (Some n) b)
+      → MakesMarked told_by failures stops_alone alone old.machine (Resume g r (Some l.birth) None now) (Err b) new.machine
+      → Comes told_by failures stops_alone alone rs w ks now (told.Resume n) new (shown_or_failed verb.Resume (Some n) b)
   refused-turn old new w ks n now m l g r b run stands id t is p q makes =
       resume-refused (record old { actors = t.between }) new w ks now n z.0 b z.1 k.rev k.connected
-      (lent told_by failures old (record old { actors = t.between }) n w ks stands stands.machine refl t.without)
-      (subst (λ e. IsAnswered told_by failures old.machine w.pad e (Err b) new.machine) (asked w ks now n z.0 m l g r k.connected z.2 is p q)
-      (answered told_by failures old.machine new.machine w.pad (Resume g r (Some l.birth) None now) (Err b) stands.machine makes))
+      (lent told_by failures stops_alone alone rs old (record old { actors = t.between }) n w ks stands stands.machine refl t.without)
+      (subst (λ e. IsAnswered told_by failures stops_alone alone rs old.machine w.pad e (Err b) new.machine) (asked w ks now n z.0 m l g r k.connected z.2 is p q)
+      (answered told_by failures stops_alone alone rs old.machine new.machine w.pad (Resume g r (Some l.birth) None now) (Err b) stands.machine makes))
       id (subst (λ y. PutsActor t.between n (actor.Named y) new.actors) (is ∙ ap kept_member_lost z.2) t.seated)
     where
       z : (x : AMember) × (w.actors n ≡ Named x) × (m ≡ member_of x (ks n))
@@ -201,15 +211,15 @@ module _ {D : Type 0} (told_by : D → Option Contents) (failures : D → ℕ) w
       k : Keeps (birth_at w.pad z.0.birth) z.0.client (ks n)
       k = keeps w ks n z.0 run z.1
 
-  pub resumed-turn : (old new : World D) (w : WorldState) (ks : Kepts) (n : Name) (now : ℕ) (m l m' : Member) (g : Grant) (r : ℕ) (x : CatchUp) → IsRun w ks → StandsFor told_by failures old w ks
+  pub resumed-turn : (old new : World D) (w : WorldState) (ks : Kepts) (n : Name) (now : ℕ) (m l m' : Member) (g : Grant) (r : ℕ) (x : CatchUp) → IsRun w ks → StandsFor told_by failures stops_alone alone rs old w ks
       → new.id ≡ old.id → IsTurn old.actors n m m' new.actors → l ≡ kept_member_lost m → m' ≡ kept_member_resumed x.session x.head l → g ≡ grant_of w n false → r ≡ l.client.rev
-      → Makes told_by failures old.machine (Resume g r (Some l.birth) None now) (Ok (ResumeAnswer (catch_up_of x))) new.machine
-      → Comes told_by failures w ks now (told.Resume n) new (Ok (shown.Resumed n x.session x.head))
+      → MakesMarked told_by failures stops_alone alone old.machine (Resume g r (Some l.birth) None now) (Ok (ResumeAnswer (catch_up_of x))) new.machine
+      → Comes told_by failures stops_alone alone rs w ks now (told.Resume n) new (Ok (shown.Resumed n x.session x.head))
   resumed-turn old new w ks n now m l m' g r x run stands id t is now-is p q makes =
       resumed (record old { actors = t.between }) new w ks now n z.0 x z.1 k.rev k.connected
-      (lent told_by failures old (record old { actors = t.between }) n w ks stands stands.machine refl t.without)
-      (subst (λ e. IsAnswered told_by failures old.machine w.pad e (Ok (ResumeAnswer (catch_up_of x))) new.machine) (asked w ks now n z.0 m l g r k.connected z.2 is p q)
-      (answered told_by failures old.machine new.machine w.pad (Resume g r (Some l.birth) None now) (Ok (ResumeAnswer (catch_up_of x))) stands.machine makes))
+      (lent told_by failures stops_alone alone rs old (record old { actors = t.between }) n w ks stands stands.machine refl t.without)
+      (subst (λ e. IsAnswered told_by failures stops_alone alone rs old.machine w.pad e (Ok (ResumeAnswer (catch_up_of x))) new.machine) (asked w ks now n z.0 m l g r k.connected z.2 is p q)
+      (answered told_by failures stops_alone alone rs old.machine new.machine w.pad (Resume g r (Some l.birth) None now) (Ok (ResumeAnswer (catch_up_of x))) stands.machine makes))
       id (subst (λ y. PutsActor t.between n (actor.Named y) new.actors) (now-is ∙ ap (kept_member_resumed x.session x.head) (is ∙ ap kept_member_lost z.2)) t.seated)
     where
       z : (x : AMember) × (w.actors n ≡ Named x) × (m ≡ member_of x (ks n))

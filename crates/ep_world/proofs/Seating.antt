@@ -16,6 +16,7 @@ use Rattle.ep_world.specs.Actors.{IsNoClient, IsSame, IsWithout, actor_of, found
 use Rattle.ep_world.specs.Conns.{KeptConn, conn_of}
 use Rattle.ep_world.specs.Events.{is_client}
 use Rattle.ep_world.specs.Standing.{IsAt, StandsBut, StandsFor}
+use Rattle.ep_history.specs.declared.record.Record.{Record}
 
 -- ---- whom a place stands for
 
@@ -100,13 +101,13 @@ put-same actors n x e q = go (decide-name q n)
 
 -- ---- worlds in code
 
-module _ {D : Type 0} (told_by : D → Option Contents) (failures : D → ℕ) where
+module _ {D : Type 0} (told_by : D → Option Contents) (failures : D → ℕ) (stops_alone : D → Bool) (alone : Bool) (rs : List Record) where
   -- only somebody else stands for a name
-  pub same-stands : (old new : World D) (w : WorldState) (ks : Kepts) → StandsFor told_by failures old w ks → IsAt told_by failures new.machine w.pad
-      → new.id ≡ old.id → IsSame old.actors new.actors → StandsFor told_by failures new w ks
+  pub same-stands : (old new : World D) (w : WorldState) (ks : Kepts) → StandsFor told_by failures stops_alone alone rs old w ks → IsAt told_by failures stops_alone alone rs new.machine w.pad
+      → new.id ≡ old.id → IsSame old.actors new.actors → StandsFor told_by failures stops_alone alone rs new w ks
   same-stands old new w ks s m i a = record { machine = m; id = i ∙ s.id; actors = λ q. a q ∙ s.actors q }
 
   -- one name is put out
-  pub lent : (old new : World D) (n : Name) (w : WorldState) (ks : Kepts) → StandsFor told_by failures old w ks → IsAt told_by failures new.machine w.pad
-      → new.id ≡ old.id → IsWithout old.actors n new.actors → StandsBut told_by failures new n w ks
+  pub lent : (old new : World D) (n : Name) (w : WorldState) (ks : Kepts) → StandsFor told_by failures stops_alone alone rs old w ks → IsAt told_by failures stops_alone alone rs new.machine w.pad
+      → new.id ≡ old.id → IsWithout old.actors n new.actors → StandsBut told_by failures stops_alone alone rs new n w ks
   lent old new n w ks s m i a = record { machine = m; id = i ∙ s.id; actors = λ q e. without-others old.actors new.actors n a q e ∙ s.actors q }

@@ -48,6 +48,7 @@ use Rattle.ep_world.proofs.Leading.{sent}
 use Rattle.ep_world.proofs.Conns.{conn-sends}
 use Rattle.ep_world.proofs.Seating.{is-guest, is-named, is-nobody, put-actors-kept, put-back, same-stands, without-nobody, without-others}
 use Rattle.ep_world.proofs.Turns.{IsTurn, Turns, keeps, sound, turns}
+use Rattle.ep_history.specs.declared.record.Record.{Record}
 
 -- a message whose change is an edit has that
 sent-edit : (msg : Message) → is_edit msg.change.edit ≡ true → sent_of msg ≡ record { base = msg.base; change = Ok msg.change }
@@ -81,21 +82,21 @@ submitted-edit b c k j g h e = connected k.connected e
     connected true e = from k.sent_in e
     connected false e = none_some e
 
-module _ {D : Type 0} (told_by : D → Option Contents) (failures : D → ℕ) where
+module _ {D : Type 0} (told_by : D → Option Contents) (failures : D → ℕ) (stops_alone : D → Bool) (alone : Bool) (rs : List Record) where
   -- what a world and its clients are equal to
-  pub stands-as : (new : World D) (v w : WorldState) (js ks : Kepts) → v ≡ w → js ≡ ks → StandsFor told_by failures new w ks → StandsFor told_by failures new v js
-  stands-as new v w js ks e h s = subst (λ x. StandsFor told_by failures new x js) (sym e) (subst (StandsFor told_by failures new w) (sym h) s)
+  pub stands-as : (new : World D) (v w : WorldState) (js ks : Kepts) → v ≡ w → js ≡ ks → StandsFor told_by failures stops_alone alone rs new w ks → StandsFor told_by failures stops_alone alone rs new v js
+  stands-as new v w js ks e h s = subst (λ x. StandsFor told_by failures stops_alone alone rs new x js) (sym e) (subst (StandsFor told_by failures stops_alone alone rs new w) (sym h) s)
 
   -- ---- edits
 
   pub edits-view : (old new : World D) (w : WorldState) (ks : Kepts) (n : Name) (now : ℕ) (e : Local) (m : Member) (k : KeptClient) (bad : Option SpliceBad) (s : Shown) → IsRun w ks
-      → StandsFor told_by failures old w ks → new.machine ≡ old.machine → new.id ≡ old.id → IsTurn old.actors n m (record m { client = k }) new.actors → is_local_text e ≡ true
-      → EditsView e m.client k bad → s ≡ shows_edited (verb_of e) n bad → Comes told_by failures w ks now (told.Edit n e) new (Ok s)
+      → StandsFor told_by failures stops_alone alone rs old w ks → new.machine ≡ old.machine → new.id ≡ old.id → IsTurn old.actors n m (record m { client = k }) new.actors → is_local_text e ≡ true
+      → EditsView e m.client k bad → s ≡ shows_edited (verb_of e) n bad → Comes told_by failures stops_alone alone rs w ks now (told.Edit n e) new (Ok s)
   edits-view old new w ks n now e m k bad s r st machine id turn text z shows-it =
-      (ap is_client t.named, text, subst (IsPlayed told_by failures w ks now (told.Edit n e) new) (sym shows-it) (go bad z))
+      (ap is_client t.named, text, subst (IsPlayed told_by failures stops_alone alone rs w ks now (told.Edit n e) new) (sym shows-it) (go bad z))
     where
-      t : Turns told_by failures new w ks n m (record m { client = k })
-      t = turns told_by failures old new w ks n m (record m { client = k }) st machine id turn
+      t : Turns told_by failures stops_alone alone rs new w ks n m (record m { client = k })
+      t = turns told_by failures stops_alone alone rs old new w ks n m (record m { client = k }) st machine id turn
 
       x : AMember
       x = t.member
@@ -110,7 +111,7 @@ module _ {D : Type 0} (told_by : D → Option Contents) (failures : D → ℕ) w
       v = ap (λ (y : KeptClient). y.view) client ∙ q.view
 
       is : Option SpliceBad → Type 0
-      is b = IsPlayed told_by failures w ks now (told.Edit n e) new (shows_edited (verb_of e) n b)
+      is b = IsPlayed told_by failures stops_alone alone rs w ks now (told.Edit n e) new (shows_edited (verb_of e) n b)
 
       showing : (b : Option SpliceBad) → local_bad e (view_of w.pad x) ≡ b → shows_edited (verb_of e) n b ≡ shows w now true (told.Edit n e)
       showing b h = sym (ap (of_client (shown.Nothing (verb_of e) n) (shows_edit w n e)) t.named ∙ ap (shows_edited (verb_of e) n) h)
@@ -121,8 +122,8 @@ module _ {D : Type 0} (told_by : D → Option Contents) (failures : D → ℕ) w
       go : (b : Option SpliceBad) → EditsView e m.client k b → is b
       go (Some why) (h, same) =
           let l = subst (λ d. local_bad e d ≡ Some why) v h in
-          IsEvent true (showing (Some why) l)
-          (subst (λ o. StandsFor told_by failures new (happened w o) (kept_happened w ks o)) (sym (at (Some why) l))
+          IsEvent true (showing (Some why) l) refl (λ _. tt)
+          (subst (λ o. StandsFor told_by failures stops_alone alone rs new (happened w o) (kept_happened w ks o)) (sym (at (Some why) l))
           (t.stays (ap (λ (y : KeptClient). record m { client = y }) same)))
       go None (h, fit, made) =
           let l = subst (λ d. local_bad e d ≡ None) v h in
@@ -137,15 +138,15 @@ module _ {D : Type 0} (told_by : D → Option Contents) (failures : D → ℕ) w
           let is-member : record m { client = k } ≡ member_of y j =
           ap (λ (i : KeptClient). record m { client = i }) (made ∙ ap₂ kept_edited (ap (local_edit e) v) client)
           ∙ ap (λ (i : Member). record i { client = j }) t.is in
-          IsEvent true (showing None l)
-          (subst (λ o. StandsFor told_by failures new (happened w o) (kept_happened w ks o)) (sym (at None l))
+          IsEvent true (showing None l) refl (λ _. tt)
+          (subst (λ o. StandsFor told_by failures stops_alone alone rs new (happened w o) (kept_happened w ks o)) (sym (at None l))
           (stands-as new _ _ _ _ is-world is-kept (t.steps (with_actor w n (Named y)) y j refl refl refl is-member)))
 
   -- ---- submissions
 
   pub submits-up : (old new : World D) (w : WorldState) (ks : Kepts) (n : Name) (now : ℕ) (m m' : Member) (s : Shown) → IsRun w ks
-      → StandsFor told_by failures old w ks → new.machine ≡ old.machine → new.id ≡ old.id → IsTurn old.actors n m m' new.actors
-      → SubmitsUp n m m' s → Comes told_by failures w ks now (told.Submit n) new (Ok s)
+      → StandsFor told_by failures stops_alone alone rs old w ks → new.machine ≡ old.machine → new.id ≡ old.id → IsTurn old.actors n m m' new.actors
+      → SubmitsUp n m m' s → Comes told_by failures stops_alone alone rs w ks now (told.Submit n) new (Ok s)
   submits-up old new w ks n now m m' s r st machine id turn z = (
     ap is_client t.named,
     refl,
@@ -153,8 +154,8 @@ module _ {D : Type 0} (told_by : D → Option Contents) (failures : D → ℕ) w
         (subst (λ k. SubmitsOf n (kept_submitted k) m m' s) client z),
   )
     where
-      t : Turns told_by failures new w ks n m m'
-      t = turns told_by failures old new w ks n m m' st machine id turn
+      t : Turns told_by failures stops_alone alone rs new w ks n m m'
+      t = turns told_by failures stops_alone alone rs old new w ks n m m' st machine id turn
 
       x : AMember
       x = t.member
@@ -172,12 +173,12 @@ module _ {D : Type 0} (told_by : D → Option Contents) (failures : D → ℕ) w
       kepts p h = ap (kept_submit ks n) t.named ∙ ap (kept_after_submit ks n) h
 
       go : (o : Option ClientState) (p : Option KeptClient) → submitted (birth_at w.pad x.birth) x.client ≡ o → kept_submitted (ks n) ≡ p → IsSameSubmission o p
-          → SubmitsOf n p m m' s → IsPlayed told_by failures w ks now (told.Submit n) new s
-      go None None a b al (same, is) = IsEvent true (is ∙ sym (showing None a)) (stands-as new _ _ _ _ (world None a) (kepts None b) (t.stays same))
+          → SubmitsOf n p m m' s → IsPlayed told_by failures stops_alone alone rs w ks now (told.Submit n) new s
+      go None None a b al (same, is) = IsEvent true (is ∙ sym (showing None a)) refl (λ _. tt) (stands-as new _ _ _ _ (world None a) (kepts None b) (t.stays same))
       go None (Some k) a b al h = absurd al
       go (Some c) None a b al h = absurd al
       go (Some c) (Some k) a b al (made, is) =
-          IsEvent true (is ∙ sym (showing (Some c) a ∙ ap (shows_sent n) al)) (stands-as new _ _ _ _ (world (Some c) a) (kepts (Some k) b) (first x.client.sent))
+          IsEvent true (is ∙ sym (showing (Some c) a ∙ ap (shows_sent n) al)) refl (λ _. tt) (stands-as new _ _ _ _ (world (Some c) a) (kepts (Some k) b) (first x.client.sent))
         where
           edit : is_edit k.sent ≡ true
           edit = submitted-edit (birth_at w.pad x.birth) x.client (ks n) k (sound w ks n x r t.named) (keeps w ks n x r t.named) b
@@ -193,16 +194,16 @@ module _ {D : Type 0} (told_by : D → Option Contents) (failures : D → ℕ) w
               ∙ ap (λ (i : KeptConn). record (member_of x k) { conn = i }) (sym (conn-sends x.conn (msg number)))
               ∙ sym (ap (λ (f : Option Submission). member_of (sent_up x number c f) k) al)
 
-          first : (f : Option Submission) → StandsFor told_by failures new (submit_as w n x f c) (kept_put ks n k)
+          first : (f : Option Submission) → StandsFor told_by failures stops_alone alone rs new (submit_as w n x f c) (kept_put ks n k)
           first None = t.steps (submit_as w n x None c) (sent_up x (suc (length w.edits)) c c.sent) k refl refl refl (is-member (suc (length w.edits)))
           first (Some f) = t.steps (submit_as w n x (Some f) c) (sent_up x x.number c c.sent) k refl refl refl (is-member x.number)
 
   -- ---- guests
 
   pub injects : (old new : World D) (between : List Slot) (w : WorldState) (ks : Kepts) (n : Name) (now base : ℕ) (read : Result Change ReadBad) (c c' : KeptConn)
-      → StandsFor told_by failures old w ks → new.machine ≡ old.machine → new.id ≡ old.id → found old.actors n ≡ Some (actor.Guest c) → IsWithout old.actors n between
+      → StandsFor told_by failures stops_alone alone rs old w ks → new.machine ≡ old.machine → new.id ≡ old.id → found old.actors n ≡ Some (actor.Guest c) → IsWithout old.actors n between
       → IfOk read (λ d. is_edit d.edit ≡ true) → c' ≡ kept_sends (record { base = base; change = read }) c → PutsActor between n (actor.Guest c') new.actors
-      → Comes told_by failures w ks now (told.Inject n base read) new (Ok (shown.Done verb.Inject (Some n)))
+      → Comes told_by failures stops_alone alone rs w ks now (told.Inject n base read) new (Ok (shown.Done verb.Inject (Some n)))
   injects old new between w ks n now base read c c' s machine id f without normal sends p =
       let y = is-guest (w.actors n) (ks n) c (sym (s.actors n) ∙ f) in
       let msg = injected (suc (length w.edits)) base read in
@@ -212,33 +213,33 @@ module _ {D : Type 0} (told_by : D → Option Contents) (failures : D → ℕ) w
       conn-sends y.0 msg ∙ ap₂ kept_sends (sent-read (suc (length w.edits)) base read normal) (sym y.2) ∙ sym sends in (
         ap is_guest y.1,
         refl,
-        IsEvent true refl
-            (subst (λ v. StandsFor told_by failures new v ks) (sym (ap (inject_by w n base read) y.1))
+        IsEvent true refl refl (λ _. tt)
+            (subst (λ v. StandsFor told_by failures stops_alone alone rs new v ks) (sym (ap (inject_by w n base read) y.1))
             (record {
-              machine = subst (λ h. IsAt told_by failures h w.pad) (sym machine) s.machine;
+              machine = subst (λ h. IsAt told_by failures stops_alone alone rs h w.pad) (sym machine) s.machine;
               id = id ∙ s.id;
               actors = put-actors-kept between new.actors w ks n (Guest (with_up y.0 (y.0.up ++ msg ∷ []))) (actor.Guest c') others p
                   (ap (λ (i : KeptConn). Some (actor.Guest i)) is-conn);
             })),
       )
 
-  same-unknown : (old new : World D) (w : WorldState) (ks : Kepts) (n : Name) (now base : ℕ) (read : Result Change ReadBad) → StandsFor told_by failures old w ks
+  same-unknown : (old new : World D) (w : WorldState) (ks : Kepts) (n : Name) (now base : ℕ) (read : Result Change ReadBad) → StandsFor told_by failures stops_alone alone rs old w ks
       → new.machine ≡ old.machine → new.id ≡ old.id → is_guest (w.actors n) ≡ false → IsSame old.actors new.actors
-      → Comes told_by failures w ks now (told.Inject n base read) new (Err world_bad.Unknown)
+      → Comes told_by failures stops_alone alone rs w ks now (told.Inject n base read) new (Err world_bad.Unknown)
   same-unknown old new w ks n now base read s machine id k a =
-      (k, same-stands told_by failures old new w ks s (subst (λ h. IsAt told_by failures h w.pad) (sym machine) s.machine) id a)
+      (k, same-stands told_by failures stops_alone alone rs old new w ks s (subst (λ h. IsAt told_by failures stops_alone alone rs h w.pad) (sym machine) s.machine) id a)
 
   -- a client doesn't inject
   pub client-injects : (old new : World D) (between : List Slot) (w : WorldState) (ks : Kepts) (n : Name) (now base : ℕ) (read : Result Change ReadBad) (m : Member)
-      → StandsFor told_by failures old w ks → new.machine ≡ old.machine → new.id ≡ old.id → found old.actors n ≡ Some (actor.Named m) → IsWithout old.actors n between
-      → PutsActor between n (actor.Named m) new.actors → Comes told_by failures w ks now (told.Inject n base read) new (Err world_bad.Unknown)
+      → StandsFor told_by failures stops_alone alone rs old w ks → new.machine ≡ old.machine → new.id ≡ old.id → found old.actors n ≡ Some (actor.Named m) → IsWithout old.actors n between
+      → PutsActor between n (actor.Named m) new.actors → Comes told_by failures stops_alone alone rs w ks now (told.Inject n base read) new (Err world_bad.Unknown)
   client-injects old new between w ks n now base read m s machine id f without p =
       let x = is-named (w.actors n) (ks n) m (sym (s.actors n) ∙ f) in
       same-unknown old new w ks n now base read s machine id (ap is_guest x.1) (put-back old.actors between new.actors n (actor.Named m) without f p)
 
   -- nor does nobody
   pub nobody-injects : (old new : World D) (w : WorldState) (ks : Kepts) (n : Name) (now base : ℕ) (read : Result Change ReadBad)
-      → StandsFor told_by failures old w ks → new.machine ≡ old.machine → new.id ≡ old.id → found old.actors n ≡ None → IsWithout old.actors n new.actors
-      → Comes told_by failures w ks now (told.Inject n base read) new (Err world_bad.Unknown)
+      → StandsFor told_by failures stops_alone alone rs old w ks → new.machine ≡ old.machine → new.id ≡ old.id → found old.actors n ≡ None → IsWithout old.actors n new.actors
+      → Comes told_by failures stops_alone alone rs w ks now (told.Inject n base read) new (Err world_bad.Unknown)
   nobody-injects old new w ks n now base read s machine id f without =
       same-unknown old new w ks n now base read s machine id (ap is_guest (is-nobody (w.actors n) (ks n) (sym (s.actors n) ∙ f))) (without-nobody old.actors new.actors n without f)

@@ -1,5 +1,5 @@
 -- What reading a world comes to.
-use Rattle.std.proofs.Common.{◌≡◌, ℕ, Bool, true, false, not, [], ◌∷◌, Option, Some, None, Result, Ok, Err, if◌then◌else◌, refl, sym, ap, ◌∙◌, subst}
+use Rattle.std.proofs.Common.{◌≡◌, ℕ, Bool, List, true, false, not, [], ◌∷◌, Option, Some, None, Result, Ok, Err, if◌then◌else◌, refl, sym, ap, ◌∙◌, subst}
 use Rattle.std.specs.Prelude.{IfErr, IfOk, is_some, nat_le, nat_lt}
 use Rattle.std.proofs.lemmas.Bool.Decides.{nat_tests}
 use Rattle.std.proofs.Common.{arith}
@@ -23,7 +23,7 @@ use Rattle.ep_schedule.specs.Kepts.{KeepsActor, Kepts}
 use Rattle.ep_schedule.specs.World.{Name, Actor as AnActor, Member as AMember, WorldState}
 use Rattle.ep_schedule.specs.World.Actor.{Nobody, Guest, Named}
 use Rattle.ep_pad.specs.Held.{Held}
-use Rattle.ep_pad.specs.Standing.{Steps, replied}
+use Rattle.ep_pad.specs.Standing.{replied}
 use Rattle.ep_pad_state.specs.Answering.{status_of}
 use Rattle.ep_pad_state.specs.declared.answers.PadStatus.{PadStatus}
 use Rattle.ep_event.specs.declared.shown.Shown.{Shown}
@@ -37,11 +37,13 @@ use Rattle.ep_world.specs.Events.{of_client, view_of}
 use Rattle.ep_world.specs.Failing.{IsFailure}
 use Rattle.ep_world.specs.Reading.{ShowsClient, ShowsPad, TellsHead, client_kept, head_there}
 use Rattle.ep_world.specs.Shows.{shows_client, shows_head, shows_marks, shows_text, shows_text_if, shows_view, shows_view_marks, state_of}
+use Rattle.ep_world.specs.Journal.{behind, record_in}
 use Rattle.ep_world.specs.Standing.{IsAnswered, IsAt, IsRun, StandsFor, answer_of, pad_after}
 use Rattle.ep_world.proofs.Brought.{unless-answers, unless-refuses-answer}
-use Rattle.ep_world.proofs.Calls.{answered}
+use Rattle.ep_world.proofs.Calls.{MakesMarked, answered}
 use Rattle.ep_world.proofs.Crashes.{status-gone, status-there}
 use Rattle.ep_world.proofs.Leading.{kept}
+use Rattle.ep_history.specs.declared.record.Record.{Record}
 
 -- ---- clients
 
@@ -147,25 +149,25 @@ module _ (pad : PadState) (r : ℕ) where
   none-shown : pad.present ≡ true → nat_lt (head (newest pad)) r ≡ true → shows_text pad r ≡ shown.NoRev r (head (newest pad))
   none-shown p h = ap IfThere p ∙ ap (shows_text_if pad r) (beyond r (head (newest pad)) h)
 
-module _ {D : Type 0} (told_by : D → Option Contents) (failures : D → ℕ) where
+module _ {D : Type 0} (told_by : D → Option Contents) (failures : D → ℕ) (stops_alone : D → Bool) (alone : Bool) (rs : List Record) where
   -- a document is asked for
-  pub text-asked : (old new : Held D) (pad : PadState) (o : Option ℕ) (r x : Result Doc PadBad) → IsAt told_by failures old pad → Steps told_by failures old (ReadText o) TextAnswer r new → r ≡ x
-      → IsAnswered told_by failures old pad (ReadText o) (replied TextAnswer x) new
+  pub text-asked : (old new : Held D) (pad : PadState) (o : Option ℕ) (r x : Result Doc PadBad) → IsAt told_by failures stops_alone alone rs old pad → MakesMarked told_by failures stops_alone alone old (ReadText o) (replied TextAnswer r) new → r ≡ x
+      → IsAnswered told_by failures stops_alone alone rs old pad (ReadText o) (replied TextAnswer x) new
   text-asked old new pad o r x a makes is =
-      answered told_by failures old new pad (ReadText o) (replied TextAnswer x) a (subst (λ y. Steps told_by failures old (ReadText o) TextAnswer y new) is makes)
+      answered told_by failures stops_alone alone rs old new pad (ReadText o) (replied TextAnswer x) a (subst (λ y. MakesMarked told_by failures stops_alone alone old (ReadText o) (replied TextAnswer y) new) is makes)
 
   -- a document is told
-  text-told : (old new : Held D) (pad : PadState) (o : Option ℕ) (doc : Doc) → IsAnswered told_by failures old pad (ReadText o) (Ok (TextAnswer doc)) new
-      → (text_fault pad o ≡ None) × (doc ≡ text pad o) × IsAt told_by failures new pad
+  text-told : (old new : Held D) (pad : PadState) (o : Option ℕ) (doc : Doc) → IsAnswered told_by failures stops_alone alone rs old pad (ReadText o) (Ok (TextAnswer doc)) new
+      → (text_fault pad o ≡ None) × (doc ≡ text pad o) × IsAt told_by failures stops_alone alone rs new pad
   text-told old new pad o doc a =
       let u = unless-answers (text_fault pad o) (Answers (TextAnswer (text pad o)) pad) _ a.0 in
-      (u.0, same (sym (ap answer_of u.1) ∙ a.0), subst (λ x. IsAt told_by failures new (pad_after pad x)) u.1 a.1)
+      (u.0, same (sym (ap answer_of u.1) ∙ a.0), subst (λ x. IsAt told_by failures stops_alone alone (behind rs (record_in x)) new (pad_after pad x)) u.1 a.1)
     where
       same : Some (TextAnswer (text pad o)) ≡ Some (TextAnswer doc) → doc ≡ text pad o
       same e = cc
 
   pub head-told : (old new : Held D) (pad : PadState) (r : ℕ) (doc : Doc) → pad.present ≡ true → r ≡ head (newest pad)
-      → IsAnswered told_by failures old pad (ReadText None) (Ok (TextAnswer doc)) new → TellsHead told_by failures pad (Ok (Some (r, doc))) new
+      → IsAnswered told_by failures stops_alone alone rs old pad (ReadText None) (Ok (TextAnswer doc)) new → TellsHead told_by failures stops_alone alone rs pad (Ok (Some (r, doc))) new
   head-told old new pad r doc there e a =
       let t = text-told old new pad None doc a in (
         ap (λ x. Some (both x doc)) e ∙ ap (λ x. Some (both (head (newest pad)) x)) t.1
@@ -176,32 +178,32 @@ module _ {D : Type 0} (told_by : D → Option Contents) (failures : D → ℕ) w
       both : ℕ → Doc → ℕ × Doc
       both a b = (a, b)
 
-  pub head-gone : (new : Held D) (pad : PadState) → pad.present ≡ false → IsAt told_by failures new pad → TellsHead told_by failures pad (Ok None) new
+  pub head-gone : (new : Held D) (pad : PadState) → pad.present ≡ false → IsAt told_by failures stops_alone alone rs new pad → TellsHead told_by failures stops_alone alone rs pad (Ok None) new
   head-gone new pad gone a = (sym (ap (λ b. if b then Some (both (head (newest pad)) (head_doc (newest pad))) else None) gone), a)
     where
       both : ℕ → Doc → ℕ × Doc
       both a b = (a, b)
 
   abbrev Reads : Held D → Result PadStatus PadBad → Held D → Type 0
-  Reads old r new = Steps told_by failures old ReadStatus (λ x. StatusAnswer (status_of x)) r new
+  Reads old r new = MakesMarked told_by failures stops_alone alone old ReadStatus (replied (λ x. StatusAnswer (status_of x)) r) new
 
-  pub head-of : (old mid new : Held D) (pad : PadState) (st : PadStatus) (doc : Doc) (r : Result PadStatus PadBad) (x : Result Doc PadBad) → IsAt told_by failures old pad
-      → Reads old r mid → r ≡ Ok st → Steps told_by failures mid (ReadText None) TextAnswer x new → x ≡ Ok doc → TellsHead told_by failures pad (Ok (Some (st.head, doc))) new
+  pub head-of : (old mid new : Held D) (pad : PadState) (st : PadStatus) (doc : Doc) (r : Result PadStatus PadBad) (x : Result Doc PadBad) → IsAt told_by failures stops_alone alone rs old pad
+      → Reads old r mid → r ≡ Ok st → MakesMarked told_by failures stops_alone alone mid (ReadText None) (replied TextAnswer x) new → x ≡ Ok doc → TellsHead told_by failures stops_alone alone rs pad (Ok (Some (st.head, doc))) new
   head-of old mid new pad st doc r x a reads is texts iz =
-      let h = status-there told_by failures old mid pad st
-      (answered told_by failures old mid pad ReadStatus (Ok (StatusAnswer (status_of st))) a (subst (λ y. Reads old y mid) is reads)) in
+      let h = status-there told_by failures stops_alone alone rs old mid pad st
+      (answered told_by failures stops_alone alone rs old mid pad ReadStatus (Ok (StatusAnswer (status_of st))) a (subst (λ y. Reads old y mid) is reads)) in
       head-told mid new pad st.head doc h.0 h.1 (text-asked mid new pad None x (Ok doc) h.2 texts iz)
 
-  pub head-off : (old new : Held D) (pad : PadState) (r : Result PadStatus PadBad) → IsAt told_by failures old pad → Reads old r new → r ≡ Err bad.Gone → TellsHead told_by failures pad (Ok None) new
+  pub head-off : (old new : Held D) (pad : PadState) (r : Result PadStatus PadBad) → IsAt told_by failures stops_alone alone rs old pad → Reads old r new → r ≡ Err bad.Gone → TellsHead told_by failures stops_alone alone rs pad (Ok None) new
   head-off old new pad r a reads is =
-      let h = status-gone told_by failures old new pad (answered told_by failures old new pad ReadStatus (Err bad.Gone) a (subst (λ y. Reads old y new) is reads)) in
+      let h = status-gone told_by failures stops_alone alone rs old new pad (answered told_by failures stops_alone alone rs old new pad ReadStatus (Err bad.Gone) a (subst (λ y. Reads old y new) is reads)) in
       head-gone new pad h.0 h.1
 
   -- ---- the world
 
   -- another state of the machine at the same pad
-  pub reads-stands : (old new : World D) (w : WorldState) (ks : Kepts) → StandsFor told_by failures old w ks → IsAt told_by failures new.machine w.pad → new.id ≡ old.id
-      → new.actors ≡ old.actors → StandsFor told_by failures new w ks
+  pub reads-stands : (old new : World D) (w : WorldState) (ks : Kepts) → StandsFor told_by failures stops_alone alone rs old w ks → IsAt told_by failures stops_alone alone rs new.machine w.pad → new.id ≡ old.id
+      → new.actors ≡ old.actors → StandsFor told_by failures stops_alone alone rs new w ks
   reads-stands old new w ks s m i e = record { machine = m; id = i ∙ s.id; actors = λ q. ap (λ x. found x q) e ∙ s.actors q }
 
   pub head-shows : (w : WorldState) (o : Option (ℕ × Doc)) → o ≡ head_there w.pad → (r : ℕ) (doc : Doc) → o ≡ Some (r, doc)
@@ -234,24 +236,24 @@ module _ {D : Type 0} (told_by : D → Option Contents) (failures : D → ℕ) w
       )
 
   -- a revision is shown, and nothing else of the world changed
-  pub text-shows : (old new : World D) (w : WorldState) (ks : Kepts) (r : ℕ) (doc : Doc) → StandsFor told_by failures old w ks
-      → IsAnswered told_by failures old.machine w.pad (ReadText (Some r)) (Ok (TextAnswer doc)) new.machine → new.id ≡ old.id → new.actors ≡ old.actors
-      → ShowsPad told_by failures w ks (shows_text w.pad r) (Ok (shown.Text r doc)) new
+  pub text-shows : (old new : World D) (w : WorldState) (ks : Kepts) (r : ℕ) (doc : Doc) → StandsFor told_by failures stops_alone alone rs old w ks
+      → IsAnswered told_by failures stops_alone alone rs old.machine w.pad (ReadText (Some r)) (Ok (TextAnswer doc)) new.machine → new.id ≡ old.id → new.actors ≡ old.actors
+      → ShowsPad told_by failures stops_alone alone rs w ks (shows_text w.pad r) (Ok (shown.Text r doc)) new
   text-shows old new w ks r doc s a i e =
       let t = text-told old.machine new.machine w.pad (Some r) doc a in
       let f = text-free w.pad.present (nat_lt (head (newest w.pad)) r) (head (newest w.pad)) t.0 in
       (ap (shown.Text r) t.1 ∙ sym (text-shown w.pad r f.0 f.1), reads-stands old new w ks s t.2 i e)
 
-  pub gone-text-shows : (old new : World D) (w : WorldState) (ks : Kepts) (r : ℕ) → StandsFor told_by failures old w ks
-      → IsAnswered told_by failures old.machine w.pad (ReadText (Some r)) (Err bad.Gone) new.machine → new.id ≡ old.id → new.actors ≡ old.actors
-      → ShowsPad told_by failures w ks (shows_text w.pad r) (Ok (shown.TextGone r)) new
+  pub gone-text-shows : (old new : World D) (w : WorldState) (ks : Kepts) (r : ℕ) → StandsFor told_by failures stops_alone alone rs old w ks
+      → IsAnswered told_by failures stops_alone alone rs old.machine w.pad (ReadText (Some r)) (Err bad.Gone) new.machine → new.id ≡ old.id → new.actors ≡ old.actors
+      → ShowsPad told_by failures stops_alone alone rs w ks (shows_text w.pad r) (Ok (shown.TextGone r)) new
   gone-text-shows old new w ks r s a i e =
       let f = text-gone w.pad.present (nat_lt (head (newest w.pad)) r) (head (newest w.pad)) (unless-refuses-answer (text_fault w.pad (Some r)) _ _ bad.Gone a.0) in
       (sym (ap (IfThere w.pad r) f), reads-stands old new w ks s a.1 i e)
 
-  pub no-rev-shows : (old new : World D) (w : WorldState) (ks : Kepts) (r h : ℕ) → StandsFor told_by failures old w ks
-      → IsAnswered told_by failures old.machine w.pad (ReadText (Some r)) (Err (bad.NoRev h)) new.machine → new.id ≡ old.id → new.actors ≡ old.actors
-      → ShowsPad told_by failures w ks (shows_text w.pad r) (Ok (shown.NoRev r h)) new
+  pub no-rev-shows : (old new : World D) (w : WorldState) (ks : Kepts) (r h : ℕ) → StandsFor told_by failures stops_alone alone rs old w ks
+      → IsAnswered told_by failures stops_alone alone rs old.machine w.pad (ReadText (Some r)) (Err (bad.NoRev h)) new.machine → new.id ≡ old.id → new.actors ≡ old.actors
+      → ShowsPad told_by failures stops_alone alone rs w ks (shows_text w.pad r) (Ok (shown.NoRev r h)) new
   no-rev-shows old new w ks r h s a i e =
       let f = text-none w.pad.present (nat_lt (head (newest w.pad)) r) (head (newest w.pad)) h (unless-refuses-answer (text_fault w.pad (Some r)) _ _ (bad.NoRev h) a.0) in
       (ap (shown.NoRev r) f.2 ∙ sym (none-shown w.pad r f.0 f.1), reads-stands old new w ks s a.1 i e)

@@ -1,5 +1,5 @@
 -- A client is taken out, makes its step, and is put back.
-use Rattle.std.proofs.Common.{◌≡◌, ℕ, false, List, Option, Some, sym, ap, ◌∙◌, subst}
+use Rattle.std.proofs.Common.{◌≡◌, ℕ, Bool, false, List, Option, Some, sym, ap, ◌∙◌, subst}
 use Rattle.ep_units.specs.Text.{text_eq}
 use Rattle.ep_outside.specs.Disk.{Contents}
 use Rattle.ep_history.specs.Kept.{KeptClient, Keeps}
@@ -18,6 +18,7 @@ use Rattle.ep_world.specs.Actors.{IsWithout, PutsActor, actor_of, found, member_
 use Rattle.ep_world.specs.Standing.{IsAt, IsRun, StandsFor}
 use Rattle.ep_world.proofs.Leading.{kept}
 use Rattle.ep_world.proofs.Seating.{is-named, put-actors, put-back, same-stands, without-others}
+use Rattle.ep_history.specs.declared.record.Record.{Record}
 
 -- ---- a client as it is kept
 
@@ -38,7 +39,7 @@ pub record IsTurn (old : List Slot) (n : Name) (m m' : Member) (new : List Slot)
   pub without : IsWithout old n between
   pub seated : PutsActor between n (actor.Named m') new
 
-module _ {D : Type 0} (told_by : D → Option Contents) (failures : D → ℕ) where
+module _ {D : Type 0} (told_by : D → Option Contents) (failures : D → ℕ) (stops_alone : D → Bool) (alone : Bool) (rs : List Record) where
   -- whose turn it is, and for what the world stands behind it
   pub record Turns (new : World D) (w : WorldState) (ks : Kepts) (n : Name) (m m' : Member) : Type 0 where
     pub member : AMember
@@ -46,27 +47,27 @@ module _ {D : Type 0} (told_by : D → Option Contents) (failures : D → ℕ) w
     pub is : m ≡ member_of member (ks n)
     -- for a world in which the name stands for another member
     pub steps : (v : WorldState) (y : AMember) (k : KeptClient) → v.pad ≡ w.pad → v.id ≡ w.id → v.actors ≡ put w.actors n (Named y) → m' ≡ member_of y k
-        → StandsFor told_by failures new v (kept_put ks n k)
+        → StandsFor told_by failures stops_alone alone rs new v (kept_put ks n k)
     -- for the same
-    pub stays : m' ≡ m → StandsFor told_by failures new w ks
+    pub stays : m' ≡ m → StandsFor told_by failures stops_alone alone rs new w ks
 
-  pub turns : (old new : World D) (w : WorldState) (ks : Kepts) (n : Name) (m m' : Member) → StandsFor told_by failures old w ks → new.machine ≡ old.machine → new.id ≡ old.id
+  pub turns : (old new : World D) (w : WorldState) (ks : Kepts) (n : Name) (m m' : Member) → StandsFor told_by failures stops_alone alone rs old w ks → new.machine ≡ old.machine → new.id ≡ old.id
       → IsTurn old.actors n m m' new.actors → Turns new w ks n m m'
   turns old new w ks n m m' s machine id t =
       let x = is-named (w.actors n) (ks n) m (sym (s.actors n) ∙ t.taken) in
       let others : (q : Name) → text_eq q n ≡ false → found t.between q ≡ actor_of (w.actors q) (ks q) =
       λ q e. without-others old.actors t.between n t.without q e ∙ s.actors q in
-      let at : IsAt told_by failures new.machine w.pad = subst (λ h. IsAt told_by failures h w.pad) (sym machine) s.machine in
+      let at : IsAt told_by failures stops_alone alone rs new.machine w.pad = subst (λ h. IsAt told_by failures stops_alone alone rs h w.pad) (sym machine) s.machine in
       record {
         member = x.0;
         named = x.1;
         is = x.2;
         steps = λ v y k pad i changed e. record {
-          machine = subst (IsAt told_by failures new.machine) (sym pad) at;
+          machine = subst (IsAt told_by failures stops_alone alone rs new.machine) (sym pad) at;
           id = id ∙ s.id ∙ sym i;
           actors = λ q. put-actors t.between new.actors w ks n (Named y) k (actor.Named m') others t.seated (ap (λ z. Some (actor.Named z)) (sym e)) q
               ∙ sym (ap (λ (f : Name → AnActor). actor_of (f q) (kept_put ks n k q)) changed);
         };
-        stays = λ e. same-stands told_by failures old new w ks s at id
+        stays = λ e. same-stands told_by failures stops_alone alone rs old new w ks s at id
             (put-back old.actors t.between new.actors n (actor.Named m) t.without t.taken (subst (λ z. PutsActor t.between n (actor.Named z) new.actors) e t.seated));
       }

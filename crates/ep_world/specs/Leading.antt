@@ -1,23 +1,30 @@
 -- Which worlds the events of a script lead to.
-use Rattle.std.specs.Prelude.{◌≡◌, ◌⊎◌, ℕ, Bool, List, [], ◌∷◌, Option, None}
+use Rattle.std.specs.Prelude.{◌≡◌, ◌⊎◌, ℕ, Bool, true, List, [], ◌∷◌, Option, None, IsSome}
 use Rattle.ep_schedule.specs.World.{WorldState, Event}
 use Rattle.ep_schedule.specs.Kepts.{Kepts, AreKept, AreSubmittedAlike, nobodies}
 use Rattle.ep_schedule.specs.Headline.{Headline}
 use Rattle.ep_schedule.specs.Hearing.{AreDue}
 use Rattle.ep_event.specs.declared.event.Event.{Event as Told}
 use Rattle.ep_world.specs.Events.{event_at, happened, kept_happened}
+use Rattle.ep_world.specs.Journal.{Decides, begun, full_at, journal_after}
 use Rattle.ep_world.specs.Standing.{IsRun, StandsFor, overfull_at}
 use Rattle.ep_world.specs.declared.world.World.{World}
 use Rattle.ep_outside.specs.Disk.{Contents}
+use Rattle.ep_history.specs.declared.record.Record.{Record}
 
--- what comes of an event at a moment: what it asks for, nothing where it isn't played, or what a journal without room makes of it
-abbrev pub Becomes : WorldState → ℕ × Told → Option Event → Type 0
-Becomes w e o = ((kept : Bool) × (o ≡ event_at w e.0 kept e.1)) ⊎ ((o ≡ None) ⊎ (o ≡ overfull_at e.1))
+-- what comes of an event at a moment, and the journal then: what it asks for, which is recorded; nothing where it isn't
+-- played; or what a journal without room makes of it. Of a crash within a take the image that is asked for decides, where the
+-- disk fails in a stop alone.
+abbrev pub Becomes : Bool → List Record → WorldState → ℕ × Told → Option Event → List Record → Type 0
+Becomes alone rs w e o qs =
+    ((kept : Bool) × (o ≡ event_at w e.0 kept e.1) × (full_at rs w e.0 e.1 ≡ None) × (alone ≡ true → Decides rs w e.0 e.1 kept) × (qs ≡ journal_after rs w e.0 kept e.1))
+    ⊎ (((o ≡ None) × (qs ≡ rs)) ⊎ ((o ≡ overfull_at e.1) × IsSome (full_at rs w e.0 e.1) × (qs ≡ rs)))
 
--- these events, each with its moment, lead from one world to another
-abbrev pub Lead : WorldState → Kepts → List (ℕ × Told) → WorldState → Kepts → Type 0
-Lead w ks [] v js = (v ≡ w) × (js ≡ ks)
-Lead w ks (e ∷ es) v js = (o : Option Event) × Becomes w e o × Lead (happened w o) (kept_happened w ks o) es v js
+-- these events, each with its moment, lead from one journal and world to another
+abbrev pub Lead : Bool → List Record → WorldState → Kepts → List (ℕ × Told) → List Record → WorldState → Kepts → Type 0
+Lead alone rs w ks [] qs v js = (qs ≡ rs) × (v ≡ w) × (js ≡ ks)
+Lead alone rs w ks (e ∷ es) qs v js =
+    (o : Option Event) × (next : List Record) × Becomes alone rs w e o next × Lead alone next (happened w o) (kept_happened w ks o) es qs v js
 
 -- what the schedule theorem says of a world that some events lead to, and of its clients as they are kept
 pub record IsScheduled (w : WorldState) (ks : Kepts) : Type 0 where
@@ -27,10 +34,11 @@ pub record IsScheduled (w : WorldState) (ks : Kepts) : Type 0 where
   pub heard : AreDue w
 
 -- what holds while events are played: some of them lead to a run for which the world in code stands
-module _ {D : Type 0} (told_by : D → Option Contents) (failures : D → ℕ) where
+module _ {D : Type 0} (told_by : D → Option Contents) (failures : D → ℕ) (stops_alone : D → Bool) (alone : Bool) where
   pub record Stays (code : World D) (first : WorldState) (es : List (ℕ × Told)) : Type 0 where
+    pub journal : List Record
     pub world : WorldState
     pub kepts : Kepts
-    pub leads : Lead first nobodies es world kepts
+    pub leads : Lead alone begun first nobodies es journal world kepts
     pub run : IsRun world kepts
-    pub stands : StandsFor told_by failures code world kepts
+    pub stands : StandsFor told_by failures stops_alone alone journal code world kepts

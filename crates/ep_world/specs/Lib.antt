@@ -3,6 +3,7 @@ pub mod Conns
 pub mod Actors
 pub mod Events
 pub mod Shows
+pub mod Journal
 pub mod Standing
 pub mod Taking
 pub mod Sending

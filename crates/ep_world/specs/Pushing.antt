@@ -1,5 +1,5 @@
 -- What a push comes to.
-use Rattle.std.specs.Prelude.{◌≡◌, ℕ, Bool, true, false, not, ◌&&◌, Option}
+use Rattle.std.specs.Prelude.{◌≡◌, ℕ, Bool, List, true, false, not, ◌&&◌, Option}
 use Rattle.ep_outside.specs.Disk.{Contents}
 use Rattle.ep_history.specs.Entries.{outcome}
 use Rattle.ep_history.specs.Entries.Entry.{Fetch}
@@ -16,6 +16,7 @@ use Rattle.ep_world.specs.declared.telling.Pushed.TheVariants as pushed
 use Rattle.ep_world.specs.Conns.{KeptConn, kept_closing_if}
 use Rattle.ep_world.specs.Standing.{IsAt}
 use Rattle.ep_world.specs.Telling.{ended_by, pushed_by, pushed_next, told_next}
+use Rattle.ep_history.specs.declared.record.Record.{Record}
 
 -- what the pad answers to a fetch of a connection, and what the connection is told of it
 pub data IsTold (pad : PadState) (old : KeptConn) (new : KeptConn) (p : Pushed) : Type 0 where
@@ -29,11 +30,11 @@ abbrev pub TellsIf : Bool → PadState → KeptConn → KeptConn → Pushed → 
 TellsIf true pad old new p = IsTold pad old new p
 TellsIf false pad old new p = (p ≡ pushed.Nothing) × (new ≡ old)
 
-module _ {D : Type 0} (told_by : D → Option Contents) (failures : D → ℕ) where
+module _ {D : Type 0} (told_by : D → Option Contents) (failures : D → ℕ) (stops_alone : D → Bool) (alone : Bool) (rs : List Record) where
   abbrev pub TellsOf : PadState → KeptConn → Held D → KeptConn → Pushed → Type 0
-  TellsOf pad old machine new p = IsTold pad old new p × IsAt told_by failures machine pad
+  TellsOf pad old machine new p = IsTold pad old new p × IsAt told_by failures stops_alone alone rs machine pad
 
   -- a client is told the next, if it may be told anything
   abbrev pub TellsMember : PadState → Member → Held D → Member → Pushed → Type 0
   TellsMember pad old machine new p =
-      TellsIf (old.client.connected && not old.conn.closed) pad old.conn new.conn p × (new ≡ record old { conn = new.conn }) × IsAt told_by failures machine pad
+      TellsIf (old.client.connected && not old.conn.closed) pad old.conn new.conn p × (new ≡ record old { conn = new.conn }) × IsAt told_by failures stops_alone alone rs machine pad

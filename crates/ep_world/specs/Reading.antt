@@ -1,5 +1,5 @@
 -- What reading a world comes to.
-use Rattle.std.specs.Prelude.{◌≡◌, ℕ, if◌then◌else◌, Option, Some, None, Result, Ok, Err, MatchResult}
+use Rattle.std.specs.Prelude.{◌≡◌, ℕ, Bool, List, if◌then◌else◌, Option, Some, None, Result, Ok, Err, MatchResult}
 use Rattle.ep_outside.specs.Disk.{Contents}
 use Rattle.ep_cs.specs.Doc.{Doc}
 use Rattle.ep_history.specs.History.{head, head_doc}
@@ -15,6 +15,7 @@ use Rattle.ep_world.specs.declared.world.World.{World}
 use Rattle.ep_world.specs.Events.{of_client}
 use Rattle.ep_world.specs.Failing.{IsFailure}
 use Rattle.ep_world.specs.Standing.{IsAt, StandsFor}
+use Rattle.ep_history.specs.declared.record.Record.{Record}
 
 -- the client of this name as it is kept, where there is one
 abbrev pub client_kept : WorldState → Kepts → Name → Option KeptClient
@@ -30,11 +31,11 @@ ShowsClient (Some s) (Err b) = IsFailure b
 abbrev pub head_there : PadState → Option (ℕ × Doc)
 head_there pad = if pad.present then Some (head (newest pad), head_doc (newest pad)) else None
 
-module _ {D : Type 0} (told_by : D → Option Contents) (failures : D → ℕ) where
+module _ {D : Type 0} (told_by : D → Option Contents) (failures : D → ℕ) (stops_alone : D → Bool) (alone : Bool) (rs : List Record) where
   -- the head is told, and the machine is where it was
   abbrev pub TellsHead : PadState → Result (Option (ℕ × Doc)) WorldBad → Held D → Type 0
-  TellsHead pad r new = MatchResult r (λ x. (x ≡ head_there pad) × IsAt told_by failures new pad) IsFailure
+  TellsHead pad r new = MatchResult r (λ x. (x ≡ head_there pad) × IsAt told_by failures stops_alone alone rs new pad) IsFailure
 
   -- just this is shown of the pad, and the world stands as before; or it ends
   abbrev pub ShowsPad : WorldState → Kepts → Shown → Result Shown WorldBad → World D → Type 0
-  ShowsPad w ks s r new = MatchResult r (λ x. (x ≡ s) × StandsFor told_by failures new w ks) IsFailure
+  ShowsPad w ks s r new = MatchResult r (λ x. (x ≡ s) × StandsFor told_by failures stops_alone alone rs new w ks) IsFailure

@@ -18,13 +18,13 @@ use Rattle.ep_pad.specs.Standing.{Stands}
 use Rattle.ep_event.specs.declared.event.Event.{Event as Told}
 use Rattle.ep_event.specs.declared.event.Event.TheVariants as told
 use Rattle.ep_event.specs.declared.shown.Shown.{Shown}
-use Rattle.ep_event.specs.declared.shown.Verb.TheVariants as verb
 use Rattle.ep_world.specs.declared.bad.WorldBad.{WorldBad}
 use Rattle.ep_world.specs.declared.bad.WorldBad.TheVariants as world_bad
 use Rattle.ep_world.specs.Actors.{AreActors, actor_of, found}
 use Rattle.ep_world.specs.Events.{event_at, happened, kept_happened, is_known, has_text}
 use Rattle.ep_world.specs.declared.world.World.{World}
-use Rattle.ep_world.specs.Shows.{pad_refuses, shows, visit_verb}
+use Rattle.ep_world.specs.Journal.{Decides, behind, full_at, full_by, journal_after, record_in}
+use Rattle.ep_world.specs.Shows.{shows}
 
 -- ---- runs
 
@@ -52,42 +52,23 @@ answer_of (Records r a next) = Some a
 
 -- ---- a journal without room
 
--- what the journal's limit refuses, and what is shown of it
-abbrev pub no_room : Told → PadBad → Option Shown
-no_room (told.Create text) b = Some (pad_refuses verb.Create None b)
-no_room (told.SetText text) b = Some (pad_refuses verb.Set None b)
-no_room told.Delete b = Some (pad_refuses verb.Drop None b)
-no_room (told.Login n) b = Some (pad_refuses verb.Login (Some n) b)
-no_room (told.Guest n read_only) b = Some (pad_refuses (visit_verb read_only) (Some n) b)
-no_room (told.Resume n) b = Some (pad_refuses verb.Resume (Some n) b)
-no_room (told.Take n) b = Some (pad_refuses verb.Take (Some n) b)
-no_room e b = None
-
--- it changes nothing, but that a take ends its session, and that who would have come back is lost
+-- an event for which it has none changes nothing, but that a take ends its session, and that who would have come back is lost
 abbrev pub overfull_at : Told → Option Event
 overfull_at (told.Take n) = Some (Overfull n)
 overfull_at (told.Resume n) = Some (Lose n)
 overfull_at e = None
 
-module _ {D : Type 0} (told_by : D → Option Contents) (failures : D → ℕ) where
-  -- an open machine in a state of this pad, which its records tell
+module _ {D : Type 0} (told_by : D → Option Contents) (failures : D → ℕ) (stops_alone : D → Bool) (alone : Bool) (rs : List Record) where
+  -- an open machine in a state of this pad, which its records tell, and they are these; and its disk has this mark, that it
+  -- fails in a stop alone
   pub record IsAt (m : Held D) (p : PadState) : Type 0 where
     pub state : MachineState
     pub stands : Stands told_by failures m state
     pub kept : IsKeptState state
     pub is_open : state.is_open ≡ true
+    pub records : state.records ≡ rs
     pub pad : state.pad ≡ p
-
-  -- an entry is answered as the rules say, or refused for its reason; or the journal has no room for its record; or the
-  -- machine is good for nothing more
-  abbrev pub IsAnswered : Held D → PadState → Entry → Reply → Held D → Type 0
-  IsAnswered old pad e (Ok a) new = (answer_of (outcome pad e) ≡ Some a) × IsAt new (pad_after pad (outcome pad e))
-  IsAnswered old pad e (Err bad.NoMemory) new = Unit {0}
-  IsAnswered old pad e (Err (bad.Store n)) new = Unit {0}
-  IsAnswered old pad e (Err (bad.JournalFull n)) new =
-      IsAt new pad × ((outcome pad e ≡ Refuses (bad.JournalFull n))
-      ⊎ ((r : Record) × (a : Answer) × (next : PadState) × (outcome pad e ≡ Records r a next)))
-  IsAnswered old pad e (Err b) new = (outcome pad e ≡ Refuses b) × IsAt new pad
+    pub mark : stops_alone m.disk ≡ alone
 
   -- ---- the world
 
@@ -103,25 +84,44 @@ module _ {D : Type 0} (told_by : D → Option Contents) (failures : D → ℕ) w
     pub id : world.id ≡ w.id
     pub actors : (q : Name) → text_eq q n ≡ false → found world.actors q ≡ actor_of (w.actors q) (ks q)
 
+module _ {D : Type 0} (told_by : D → Option Contents) (failures : D → ℕ) (stops_alone : D → Bool) (alone : Bool) (rs : List Record) where
+  -- an entry is answered as the rules say, and its record is kept; or refused for its reason; or the journal has no room for
+  -- its record; or the machine is good for nothing more
+  abbrev pub IsAnswered : Held D → PadState → Entry → Reply → Held D → Type 0
+  IsAnswered old pad e (Ok a) new =
+      (answer_of (outcome pad e) ≡ Some a)
+      × IsAt told_by failures stops_alone alone (behind rs (record_in (outcome pad e))) new (pad_after pad (outcome pad e))
+      × (full_by rs pad (record_in (outcome pad e)) ≡ None)
+  IsAnswered old pad e (Err bad.NoMemory) new = Unit {0}
+  IsAnswered old pad e (Err (bad.Store n)) new = Unit {0}
+  IsAnswered old pad e (Err (bad.JournalFull n)) new =
+      IsAt told_by failures stops_alone alone rs new pad × ((outcome pad e ≡ Refuses (bad.JournalFull n))
+      ⊎ ((r : Record) × (a : Answer) × (next : PadState) × (outcome pad e ≡ Records r a next) × (full_by rs pad (Some r) ≡ Some (bad.JournalFull n))))
+  IsAnswered old pad e (Err b) new = (outcome pad e ≡ Refuses b) × IsAt told_by failures stops_alone alone rs new pad
+
   -- ---- events
 
   -- an event was played: it is shown, and then the world in code stands for the one after it; or for the one in which the
   -- journal had no room
   pub data IsPlayed (w : WorldState) (ks : Kepts) (now : ℕ) (e : Told) (new : World D) (shown : Shown) : Type 0 where
-    IsEvent : (kept : Bool) → shown ≡ shows w now kept e → StandsFor new (happened w (event_at w now kept e)) (kept_happened w ks (event_at w now kept e))
+    IsEvent : (kept : Bool) → shown ≡ shows w now kept e → full_at rs w now e ≡ None → (alone ≡ true → Decides rs w now e kept)
+        → StandsFor told_by failures stops_alone alone (journal_after rs w now kept e) new (happened w (event_at w now kept e)) (kept_happened w ks (event_at w now kept e))
         → IsPlayed w ks now e new shown
-    HasNoRoom : (bytes : ℕ) → no_room e (bad.JournalFull bytes) ≡ Some shown
-        → StandsFor new (happened w (overfull_at e)) (kept_happened w ks (overfull_at e)) → IsPlayed w ks now e new shown
+    HasNoRoom : full_at rs w now e ≡ Some shown
+        → StandsFor told_by failures stops_alone alone rs new (happened w (overfull_at e)) (kept_happened w ks (overfull_at e)) → IsPlayed w ks now e new shown
 
   -- what an event comes to. Where nobody of the kind has the name, or where what it brings is no text, nothing happens.
   abbrev pub Comes : WorldState → Kepts → ℕ → Told → World D → Result Shown WorldBad → Type 0
   Comes w ks now e new (Ok shown) = (is_known w e ≡ true) × (has_text e ≡ true) × IsPlayed w ks now e new shown
-  Comes w ks now e new (Err world_bad.Unknown) = (is_known w e ≡ false) × StandsFor new w ks
-  Comes w ks now e new (Err world_bad.NoText) = (has_text e ≡ false) × StandsFor new w ks
+  Comes w ks now e new (Err world_bad.Unknown) = (is_known w e ≡ false) × StandsFor told_by failures stops_alone alone rs new w ks
+  Comes w ks now e new (Err world_bad.NoText) = (has_text e ≡ false) × StandsFor told_by failures stops_alone alone rs new w ks
   Comes w ks now e new (Err (world_bad.Full n)) = Unit {0}
   Comes w ks now e new (Err (world_bad.Store n)) = Unit {0}
   Comes w ks now e new (Err world_bad.NoMemory) = Unit {0}
 
+module _ {D : Type 0} (told_by : D → Option Contents) (failures : D → ℕ) (stops_alone : D → Bool) where
   -- of each world for which it stood
   abbrev pub Plays : World D → ℕ → Told → Result Shown WorldBad → World D → Type 0
-  Plays old now e result new = (w : WorldState) (ks : Kepts) → IsRun w ks → StandsFor old w ks → Comes w ks now e new result
+  Plays old now e result new =
+      (alone : Bool) (rs : List Record) (w : WorldState) (ks : Kepts) → IsRun w ks → StandsFor told_by failures stops_alone alone rs old w ks
+      → Comes told_by failures stops_alone alone rs w ks now e new result

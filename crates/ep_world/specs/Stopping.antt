@@ -1,13 +1,14 @@
 -- What a crash comes to.
-use Rattle.std.specs.Prelude.{◌≡◌, ℕ, Bool, true, false, List, Option, Some, None, Result, Ok, Err}
+use Rattle.std.specs.Prelude.{◌≡◌, ℕ, Bool, true, false, List, [], ◌∷◌, ◌++◌, Option, Some, None, Result, Ok, Err}
 use Rattle.ep_units.specs.declared.session.Session.{Session}
 use Rattle.ep_outside.specs.Disk.{Contents}
 use Rattle.ep_history.specs.Accept.{committed}
-use Rattle.ep_history.specs.Machine.{MachineState, IsKeptState, settled}
+use Rattle.ep_history.specs.Machine.{MachineState, settled}
 use Rattle.ep_history.specs.Pad.{PadState, reopened}
 use Rattle.ep_schedule.specs.World.{Name, Message, Reason as AReason, reason}
 use Rattle.ep_pad.specs.Held.{Held}
-use Rattle.ep_pad.specs.Standing.{Stands}
+use Rattle.ep_outside.specs.declared.image.Image.{Image}
+use Rattle.ep_pad.specs.Standing.{opening}
 use Rattle.ep_world.specs.declared.actors.Actor.{Actor}
 use Rattle.ep_world.specs.declared.actors.Actor.TheVariants as actor
 use Rattle.ep_world.specs.declared.actors.Slot.{Slot}
@@ -17,7 +18,9 @@ use Rattle.ep_world.specs.declared.message.Sent.{Sent}
 use Rattle.ep_world.specs.Actors.{IsSame, PutsActor, found}
 use Rattle.ep_world.specs.Conns.{KeptConn, TakesUp, sent_of}
 use Rattle.ep_world.specs.Failing.{IsFailure}
+use Rattle.ep_world.specs.Journal.{behind, kept_record, keeps_record, record_taken}
 use Rattle.ep_world.specs.Standing.{IsAt}
+use Rattle.ep_history.specs.declared.record.Record.{Record}
 
 -- ---- the first message
 
@@ -61,13 +64,18 @@ broken_by pad now (Some x) kept = broken_off pad x.0 now x.1 kept
 abbrev pub taken_of : Session × Message → Session × Sent
 taken_of x = (x.0, sent_of x.1)
 
-module _ {D : Type 0} (told_by : D → Option Contents) (failures : D → ℕ) where
+-- the pad's journal behind it, and an opening
+abbrev pub journal_broken : List Record → PadState → ℕ → Option (Session × Message) → Bool → List Record
+journal_broken rs pad now x kept = behind rs (kept_record kept (record_taken pad now x)) ++ opening pad ∷ []
+
+module _ {D : Type 0} (told_by : D → Option Contents) (failures : D → ℕ) (stops_alone : D → Bool) (alone : Bool) where
   -- a machine that was started again is open; what a record that was pending came to, the disk decided
   abbrev pub Reopens : MachineState → Held D → Type 0
-  Reopens st new = (kept : Bool) × IsAt told_by failures new (reopened (settled kept st).pad)
+  Reopens st new = (kept : Bool) × IsAt told_by failures stops_alone alone ((settled kept st).records ++ opening (settled kept st).pad ∷ []) new (reopened (settled kept st).pad)
 
-  -- a take that was broken off, where there was a message, is settled as one whose record was kept, or as none
-  abbrev pub BreaksOff : PadState → ℕ → Option (Session × Message) → Held D → Type 0
-  BreaksOff pad now first new =
-      (st : MachineState) × Stands told_by failures new st × IsKeptState st
-      × ((kept : Bool) → (b : Bool) × ((settled kept st).pad ≡ broken_by pad now first b))
+  -- a take that was broken off, where there was a message, is settled as one whose record was kept, or as none; and the
+  -- machine is open again. Of a disk that fails in a stop alone the image that was asked for decides.
+  abbrev pub BreaksOff : List Record → PadState → ℕ → Option (Session × Message) → ℕ → Image → Held D → Type 0
+  BreaksOff rs pad now first calls image new =
+      (kept : Bool) × IsAt told_by failures stops_alone alone (journal_broken rs pad now first kept) new (reopened (broken_by pad now first kept))
+      × (alone ≡ true → kept ≡ keeps_record rs pad now first calls image)

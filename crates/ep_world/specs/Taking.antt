@@ -1,16 +1,18 @@
 -- What taking a message comes to.
-use Rattle.std.specs.Prelude.{◌≡◌, ℕ, Option, Some, None, Result, Ok, Err}
+use Rattle.std.specs.Prelude.{◌≡◌, ℕ, Bool, List, [], ◌∷◌, ◌++◌, Option, Some, None, Result, Ok, Err}
 use Rattle.ep_units.specs.declared.session.Session.{Session}
 use Rattle.ep_outside.specs.Disk.{Contents}
 use Rattle.ep_history.specs.Accept.{at_head, committed}
 use Rattle.ep_history.specs.Pad.{PadState, leave}
 use Rattle.ep_history.specs.Readings.{commit}
+use Rattle.ep_history.specs.Records.{accept_record}
 use Rattle.ep_history.specs.declared.pad_bad.PadBad.{PadBad}
 use Rattle.ep_history.specs.declared.pad_bad.PadBad.TheVariants as bad
 use Rattle.ep_history.specs.declared.seat.Why.TheVariants as end
 use Rattle.ep_schedule.specs.World.{Name, Message, Reason as AReason, reason}
 use Rattle.ep_pad.specs.Held.{Held}
 use Rattle.ep_step.specs.Telling.{told_by}
+use Rattle.ep_step.specs.declared.telling.Committed.{Committed as Told}
 use Rattle.ep_event.specs.declared.shown.Ended.{Ended}
 use Rattle.ep_event.specs.declared.shown.Ended.TheVariants as ended
 use Rattle.ep_event.specs.declared.shown.Reason.{Reason}
@@ -23,8 +25,10 @@ use Rattle.ep_world.specs.declared.bad.WorldBad.{WorldBad}
 use Rattle.ep_world.specs.declared.bad.WorldBad.TheVariants as world_bad
 use Rattle.ep_world.specs.declared.taking.Took.{Took}
 use Rattle.ep_world.specs.declared.taking.Took.TheVariants as took
+use Rattle.ep_world.specs.Journal.{full_by}
 use Rattle.ep_world.specs.Shows.{reason_of, shows_made}
 use Rattle.ep_world.specs.Standing.{IsAt}
+use Rattle.ep_history.specs.declared.record.Record.{Record}
 
 -- the word with which a refusal closes
 abbrev pub closing_word : Reason → Ended
@@ -58,17 +62,28 @@ not_made bad.NoMemory = Err world_bad.NoMemory
 not_made (bad.JournalFull n) = Ok (took.NoRoom n)
 not_made b = Ok (took.Refused (why.Pad b))
 
-module _ {D : Type 0} (told_by_disk : D → Option Contents) (failures : D → ℕ) where
-  -- a session's message is committed, or refused for its reason; or the journal has no room for what nothing else refuses
+module _ {D : Type 0} (told_by_disk : D → Option Contents) (failures : D → ℕ) (stops_alone : D → Bool) (alone : Bool) (rs : List Record) where
+  -- a session's message is committed, and its record kept; the pad in which it is
+  abbrev pub Commits : PadState → Session → Message → ℕ → Held D → Told → Type 0
+  Commits pad s msg now new c =
+      (reason pad s msg ≡ None) × (told_by c ≡ commit pad (at_head pad msg.base msg.change.edit))
+      × IsAt told_by_disk failures stops_alone alone (rs ++ accept_record pad s now msg.base msg.change ∷ []) new (committed pad s now msg.base msg.change)
+      × (full_by rs pad (Some (accept_record pad s now msg.base msg.change)) ≡ None)
+
+  -- the journal has no room for the record of what nothing else refuses; what the machine is at then
+  abbrev pub IsFull : PadState → Session → Message → ℕ → Held D → ℕ → PadState → Type 0
+  IsFull pad s msg now new bytes next =
+      (reason pad s msg ≡ None) × IsAt told_by_disk failures stops_alone alone rs new next
+      × (full_by rs pad (Some (accept_record pad s now msg.base msg.change)) ≡ Some (bad.JournalFull bytes))
+
+  -- it is committed, or refused for its reason; or the journal has no room
   abbrev pub Brings : PadState → Session → Message → ℕ → Held D → Took → Type 0
-  Brings pad s msg now new (took.Made c) =
-      (reason pad s msg ≡ None) × (told_by c ≡ commit pad (at_head pad msg.base msg.change.edit)) × IsAt told_by_disk failures new (committed pad s now msg.base msg.change)
-  Brings pad s msg now new (took.Refused x) = (r : AReason) × (reason pad s msg ≡ Some r) × (x ≡ reason_of r) × IsAt told_by_disk failures new pad
-  Brings pad s msg now new (took.NoRoom b) = (reason pad s msg ≡ None) × IsAt told_by_disk failures new pad
+  Brings pad s msg now new (took.Made c) = Commits pad s msg now new c
+  Brings pad s msg now new (took.Refused x) = (r : AReason) × (reason pad s msg ≡ Some r) × (x ≡ reason_of r) × IsAt told_by_disk failures stops_alone alone rs new pad
+  Brings pad s msg now new (took.NoRoom b) = IsFull pad s msg now new b pad
 
   -- the same, where a session whose message isn't taken is left
   abbrev pub Settles : PadState → Session → Message → ℕ → Held D → Took → Type 0
-  Settles pad s msg now new (took.Made c) =
-      (reason pad s msg ≡ None) × (told_by c ≡ commit pad (at_head pad msg.base msg.change.edit)) × IsAt told_by_disk failures new (committed pad s now msg.base msg.change)
-  Settles pad s msg now new (took.Refused x) = (r : AReason) × (reason pad s msg ≡ Some r) × (x ≡ reason_of r) × IsAt told_by_disk failures new (leave pad s)
-  Settles pad s msg now new (took.NoRoom b) = (reason pad s msg ≡ None) × IsAt told_by_disk failures new (leave pad s)
+  Settles pad s msg now new (took.Made c) = Commits pad s msg now new c
+  Settles pad s msg now new (took.Refused x) = (r : AReason) × (reason pad s msg ≡ Some r) × (x ≡ reason_of r) × IsAt told_by_disk failures stops_alone alone rs new (leave pad s)
+  Settles pad s msg now new (took.NoRoom b) = IsFull pad s msg now new b (leave pad s)

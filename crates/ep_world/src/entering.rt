@@ -27,7 +27,7 @@ use std::alloc::Global;
 impl<D: Crash> World<D> {
     /// A client logs in, and starts anew.
     pub(crate) fn login(&mut self, name: Units, now: u64) -> Result<Shown, WorldBad>
-        ensures { Plays D.told D.failures self.old now (event.Login name) result self.new }
+        ensures { Plays D.told D.failures D.stops_alone self.old now (event.Login name) result self.new }
     {
         if self.actors.is_guest(&name) {
             return Err(WorldBad::Unknown);
@@ -46,7 +46,7 @@ impl<D: Crash> World<D> {
         read_only: bool,
         now: u64,
     ) -> Result<Shown, WorldBad>
-        ensures { Plays D.told D.failures self.old now (event.Guest name read_only) result self.new }
+        ensures { Plays D.told D.failures D.stops_alone self.old now (event.Guest name read_only) result self.new }
     {
         if self.actors.is_client(&name) {
             return Err(WorldBad::Unknown);
@@ -61,7 +61,7 @@ impl<D: Crash> World<D> {
 
     /// A client, lost if it wasn't, comes back at its revision.
     pub(crate) fn resume(&mut self, name: Units, now: u64) -> Result<Shown, WorldBad>
-        ensures { Plays D.told D.failures self.old now (event.Resume name) result self.new }
+        ensures { Plays D.told D.failures D.stops_alone self.old now (event.Resume name) result self.new }
     {
         let mut member = self.actors.member(self.alloc, &name)?;
         member.lose();

@@ -1,6 +1,6 @@
 //! What can be shown of a world.
 
-ghost use Rattle.std.specs.Prelude.{◌≡◌, ℕ, not, is_some, IfErr, IfOk};
+ghost use Rattle.std.specs.Prelude.{◌≡◌, ℕ, Bool, List, not, is_some, IfErr, IfOk};
 ghost use Rattle.std.specs.Option.{option_map};
 ghost use Rattle.ep_cs.specs.Fits.{is_identity};
 ghost use Rattle.ep_history.specs.Pad.{PadState};
@@ -11,6 +11,7 @@ ghost use Rattle.ep_world.specs.Failing.{IsFailure};
 ghost use Rattle.ep_world.specs.Reading.{client_kept, ShowsClient, ShowsPad, TellsHead};
 ghost use Rattle.ep_world.specs.Shows.{shows_head, shows_marks, shows_text, shows_view, shows_view_marks, state_of};
 ghost use Rattle.ep_world.specs.Standing.{IsAt, IsRun, StandsFor};
+ghost use Rattle.ep_history.specs.declared.record.Record.{Record};
 
 use crate::actors::Actor;
 use crate::bad::{WorldBad, failure};
@@ -27,7 +28,7 @@ use std::alloc::Global;
 impl<D: Crash> World<D> {
     /// The client of a name, where there is one.
     pub fn view(&self, name: &Units) -> Option<&Client>
-        ensures { (w : WorldState) (ks : Kepts) → StandsFor D.told D.failures self.now w ks → option_map (λ c. c.now) result ≡ client_kept w ks name.now }
+        ensures { (alone : Bool) (rs : List Record) (w : WorldState) (ks : Kepts) → StandsFor D.told D.failures D.stops_alone alone rs self.now w ks → option_map (λ c. c.now) result ≡ client_kept w ks name.now }
     {
         match self.actors.find(name) {
             Some(Actor::Named(member)) => Some(&member.client),
@@ -37,7 +38,7 @@ impl<D: Crash> World<D> {
 
     /// What a client sees, and what it has pending.
     pub fn show(&self, name: Units) -> Result<Shown, WorldBad>
-        ensures { (w : WorldState) (ks : Kepts) → IsRun w ks → StandsFor D.told D.failures self.now w ks → ShowsClient (shows_view w name) result }
+        ensures { (alone : Bool) (rs : List Record) (w : WorldState) (ks : Kepts) → IsRun w ks → StandsFor D.told D.failures D.stops_alone alone rs self.now w ks → ShowsClient (shows_view w name) result }
     {
         match self.view(&name) {
             Some(client) => show_view(self.alloc, client, name),
@@ -47,7 +48,7 @@ impl<D: Crash> World<D> {
 
     /// The attributes of what a client sees.
     pub fn view_marks(&self, name: Units) -> Result<Shown, WorldBad>
-        ensures { (w : WorldState) (ks : Kepts) → IsRun w ks → StandsFor D.told D.failures self.now w ks → ShowsClient (shows_view_marks w name) result }
+        ensures { (alone : Bool) (rs : List Record) (w : WorldState) (ks : Kepts) → IsRun w ks → StandsFor D.told D.failures D.stops_alone alone rs self.now w ks → ShowsClient (shows_view_marks w name) result }
     {
         match self.view(&name) {
             Some(client) => show_marks(self.alloc, client, name),
@@ -57,7 +58,7 @@ impl<D: Crash> World<D> {
 
     /// The head.
     pub fn head(&mut self) -> Result<Shown, WorldBad>
-        ensures { (w : WorldState) (ks : Kepts) → StandsFor D.told D.failures self.old w ks → ShowsPad D.told D.failures w ks (shows_head w.pad) result self.new }
+        ensures { (alone : Bool) (rs : List Record) (w : WorldState) (ks : Kepts) → StandsFor D.told D.failures D.stops_alone alone rs self.old w ks → ShowsPad D.told D.failures D.stops_alone alone rs w ks (shows_head w.pad) result self.new }
     {
         match head(&mut self.machine)? {
             Some((rev, doc)) => Ok(Shown::Head { rev, doc }),
@@ -67,7 +68,7 @@ impl<D: Crash> World<D> {
 
     /// The attributes of the head.
     pub fn marks(&mut self) -> Result<Shown, WorldBad>
-        ensures { (w : WorldState) (ks : Kepts) → StandsFor D.told D.failures self.old w ks → ShowsPad D.told D.failures w ks (shows_marks w.pad) result self.new }
+        ensures { (alone : Bool) (rs : List Record) (w : WorldState) (ks : Kepts) → StandsFor D.told D.failures D.stops_alone alone rs self.old w ks → ShowsPad D.told D.failures D.stops_alone alone rs w ks (shows_marks w.pad) result self.new }
     {
         match head(&mut self.machine)? {
             Some((rev, doc)) => Ok(Shown::HeadMarks { rev, doc }),
@@ -77,7 +78,7 @@ impl<D: Crash> World<D> {
 
     /// The document of a revision.
     pub fn text(&mut self, rev: u64) -> Result<Shown, WorldBad>
-        ensures { (w : WorldState) (ks : Kepts) → StandsFor D.told D.failures self.old w ks → ShowsPad D.told D.failures w ks (shows_text w.pad rev) result self.new }
+        ensures { (alone : Bool) (rs : List Record) (w : WorldState) (ks : Kepts) → StandsFor D.told D.failures D.stops_alone alone rs self.old w ks → ShowsPad D.told D.failures D.stops_alone alone rs w ks (shows_text w.pad rev) result self.new }
     {
         match self.machine.text(Some(rev)) {
             Ok(doc) => Ok(Shown::Text { rev, doc }),
@@ -112,7 +113,7 @@ fn show_marks(alloc: Global, client: &Client, name: Units) -> Result<Shown, Worl
 
 /// The head with its document, where the pad is there.
 fn head<D: Disk>(machine: &mut PadMachine<D>) -> Result<Option<(u64, Doc)>, WorldBad>
-    ensures told { (pad : PadState) → IsAt D.told D.failures machine.old pad → TellsHead D.told D.failures pad result machine.new }
+    ensures told { (alone : Bool) (rs : List Record) (pad : PadState) → IsAt D.told D.failures D.stops_alone alone rs machine.old pad → TellsHead D.told D.failures D.stops_alone alone rs pad result machine.new }
     ensures failed { IfErr result IsFailure }
 {
     match machine.status() {

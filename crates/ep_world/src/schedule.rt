@@ -1,12 +1,14 @@
 //! The schedule theorem, of what is played.
 
-ghost use Rattle.std.specs.Prelude.{◌∷◌, ◌++◌, [], List, ℕ, IfOk};
+ghost use Rattle.std.specs.Prelude.{◌∷◌, ◌++◌, Bool, [], List, ℕ, IfOk};
 ghost use Rattle.ep_schedule.specs.World.{WorldState, start};
 ghost use Rattle.ep_schedule.specs.Kepts.{Kepts, nobodies};
 ghost use Rattle.ep_pad_file.specs.Standing.{Holds};
 ghost use Rattle.ep_event.specs.declared.event.Event.{Event as Told};
+ghost use Rattle.ep_world.specs.Journal.{begun};
 ghost use Rattle.ep_world.specs.Leading.{IsScheduled, Lead, Stays};
 ghost use Rattle.ep_world.specs.Standing.{StandsFor};
+ghost use Rattle.ep_history.specs.declared.record.Record.{Record};
 
 use crate::bad::WorldBad;
 use crate::world::World;
@@ -26,8 +28,8 @@ pub fn schedule_law<D: Crash + Drop>(
     id: PadId,
     events: Vec<(u64, Event)>,
 ) -> Result<World<D>, WorldBad>
-    ensures { Holds (D.told disk) [] → IfOk result (λ world. (w : WorldState) × ((ks : Kepts)
-        × (Lead (start limits id) nobodies events.items w ks × StandsFor D.told D.failures world w ks × IsScheduled w ks))) }
+    ensures { Holds (D.told disk) [] → IfOk result (λ world. (rs : List Record) × ((w : WorldState) × ((ks : Kepts)
+        × (Lead (D.stops_alone disk) begun (start limits id) nobodies events.items rs w ks × StandsFor D.told D.failures D.stops_alone (D.stops_alone disk) rs world w ks × IsScheduled w ks)))) }
 {
     let mut world = World::new(alloc, disk, limits, id)?;
     for (now, event) in events {
@@ -38,8 +40,8 @@ pub fn schedule_law<D: Crash + Drop>(
 
 /// One event, or none where it names nobody or brings no text.
 fn play<D: Crash>(world: &mut World<D>, now: u64, event: Event) -> Result<(), WorldBad>
-    ensures { (first : WorldState) (es : List (ℕ × Told)) → Stays D.told D.failures world.old first es
-        → IfOk result (λ _. Stays D.told D.failures world.new first (es ++ (now, event) ∷ [])) }
+    ensures { (alone : Bool) (first : WorldState) (es : List (ℕ × Told)) → Stays D.told D.failures D.stops_alone alone world.old first es
+        → IfOk result (λ _. Stays D.told D.failures D.stops_alone alone world.new first (es ++ (now, event) ∷ [])) }
 {
     match world.step(now, event) {
         Ok(_shown) => Ok(()),

@@ -33,7 +33,7 @@ use std::alloc::Global;
 impl<D: Crash> World<D> {
     /// A client edits what it sees.
     pub(crate) fn edit(&mut self, name: Units, edit: &Local) -> Result<Shown, WorldBad>
-        ensures { (now : ℕ) → Plays D.told D.failures self.old now (event.Edit name edit.now) result self.new }
+        ensures { (now : ℕ) → Plays D.told D.failures D.stops_alone self.old now (event.Edit name edit.now) result self.new }
     {
         if !is_text(edit) {
             return Err(WorldBad::NoText);
@@ -46,7 +46,7 @@ impl<D: Crash> World<D> {
 
     /// A client sends what it has to send.
     pub(crate) fn submit(&mut self, name: Units) -> Result<Shown, WorldBad>
-        ensures { (now : ℕ) → Plays D.told D.failures self.old now (event.Submit name) result self.new }
+        ensures { (now : ℕ) → Plays D.told D.failures D.stops_alone self.old now (event.Submit name) result self.new }
     {
         let mut member = self.actors.member(self.alloc, &name)?;
         let shown = member.submit(self.alloc, name.copy(self.alloc)?)?;
@@ -61,7 +61,7 @@ impl<D: Crash> World<D> {
         base: u64,
         change: Result<Change, ReadBad>,
     ) -> Result<Shown, WorldBad>
-        ensures { (now : ℕ) → Plays D.told D.failures self.old now (event.Inject name base change) result self.new }
+        ensures { (now : ℕ) → Plays D.told D.failures D.stops_alone self.old now (event.Inject name base change) result self.new }
     {
         match self.actors.take(&name) {
             Some(Actor::Guest(mut conn)) => {

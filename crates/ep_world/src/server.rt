@@ -19,7 +19,7 @@ use std::alloc::Global;
 impl<D: Crash> World<D> {
     /// The pad is made with a text.
     pub(crate) fn create(&mut self, text: &Units, now: u64) -> Result<Shown, WorldBad>
-        ensures { Plays D.told D.failures self.old now (event.Create text.now) result self.new }
+        ensures { Plays D.told D.failures D.stops_alone self.old now (event.Create text.now) result self.new }
     {
         if !text.well_formed() {
             return Err(WorldBad::NoText);
@@ -34,7 +34,7 @@ impl<D: Crash> World<D> {
 
     /// The pad's text is replaced.
     pub(crate) fn set_text(&mut self, text: &Units, now: u64) -> Result<Shown, WorldBad>
-        ensures { Plays D.told D.failures self.old now (event.SetText text.now) result self.new }
+        ensures { Plays D.told D.failures D.stops_alone self.old now (event.SetText text.now) result self.new }
     {
         if !text.well_formed() {
             return Err(WorldBad::NoText);
@@ -54,7 +54,7 @@ impl<D: Crash> World<D> {
 
     /// The pad is deleted.
     pub(crate) fn delete(&mut self, now: u64) -> Result<Shown, WorldBad>
-        ensures { Plays D.told D.failures self.old now event.Delete result self.new }
+        ensures { Plays D.told D.failures D.stops_alone self.old now event.Delete result self.new }
     {
         match self.machine.delete(now) {
             Ok(()) => Ok(Shown::Done {

@@ -1,10 +1,11 @@
 //! The server stops and starts again.
 
-ghost use Rattle.std.specs.Prelude.{◌≡◌, Option, Some, None, IfErr, IfOk, MatchResult};
+ghost use Rattle.std.specs.Prelude.{◌≡◌, Bool, List, Option, Some, None, Err, IfErr, IfOk, OnOk, MatchResult};
 ghost use Rattle.std.specs.Option.{option_map};
 ghost use Rattle.ep_units.specs.declared.session.Session.{Session};
 ghost use Rattle.ep_history.specs.Machine.{MachineState, IsKeptState};
 ghost use Rattle.ep_history.specs.Pad.{PadState};
+ghost use Rattle.ep_history.specs.declared.pad_bad.PadBad.TheVariants as bad;
 ghost use Rattle.ep_schedule.specs.World.{Message};
 ghost use Rattle.ep_pad.specs.Standing.{Stands};
 ghost use Rattle.ep_event.specs.declared.event.Event.TheVariants as event;
@@ -12,6 +13,7 @@ ghost use Rattle.ep_world.specs.Failing.{IsFailure};
 ghost use Rattle.ep_world.specs.Shows.{shows_opening};
 ghost use Rattle.ep_world.specs.Standing.{IsAt, Plays};
 ghost use Rattle.ep_world.specs.Stopping.{BreaksOff, FindsFirst, Reopens, TakesFirst, TakesSent, taken_of};
+ghost use Rattle.ep_history.specs.declared.record.Record.{Record};
 
 use crate::actors::{Actor, Actors};
 use crate::bad::{WorldBad, failure};
@@ -20,15 +22,15 @@ use crate::message::Sent;
 use crate::world::World;
 use ep_event::{Shown, StopAt};
 use ep_history::PadBad;
-use ep_outside::{Crash, Disk};
-use ep_pad::PadMachine;
+use ep_outside::{Crash, Disk, Image};
+use ep_pad::{Committed, PadMachine};
 use ep_units::{Session, Units};
 use std::alloc::Global;
 
 impl<D: Crash> World<D> {
     /// A crash between two calls: all connections are lost, and the pad is opened anew.
     pub(crate) fn crash(&mut self, now: u64) -> Result<Shown, WorldBad>
-        ensures { Plays D.told D.failures self.old now (event.Stop None) result self.new }
+        ensures { Plays D.told D.failures D.stops_alone self.old now (event.Stop None) result self.new }
     {
         reopen(&mut self.machine)?;
         self.actors.cut_off();
@@ -37,13 +39,11 @@ impl<D: Crash> World<D> {
 
     /// A crash within the take of a name's first message, where it has one.
     pub(crate) fn stop(&mut self, at: StopAt, now: u64) -> Result<Shown, WorldBad>
-        ensures { Plays D.told D.failures self.old now (event.Stop (Some at)) result self.new }
+        ensures { Plays D.told D.failures D.stops_alone self.old now (event.Stop (Some at)) result self.new }
     {
         let StopAt { name, calls, image } = at;
         let first = first_sent(self.alloc, &mut self.actors, &name)?;
-        self.machine.stop_after(calls, image);
-        break_off(&mut self.machine, first, now)?;
-        reopen(&mut self.machine)?;
+        break_off(&mut self.machine, first, calls, image, now)?;
         self.actors.cut_off();
         opening(&mut self.machine)
     }
@@ -51,7 +51,8 @@ impl<D: Crash> World<D> {
 
 /// The machine is started again, and finds what the crash left.
 fn reopen<D: Crash>(machine: &mut PadMachine<D>) -> Result<(), WorldBad>
-    ensures reopens { (st : MachineState) → IsKeptState st → Stands D.told D.failures machine.old st → IfOk result (λ _. Reopens D.told D.failures st machine.new) }
+    ensures reopens { (alone : Bool) (st : MachineState) → IsKeptState st → Stands D.told D.failures machine.old st → D.stops_alone machine.old.disk ≡ alone
+        → IfOk result (λ _. Reopens D.told D.failures D.stops_alone alone st machine.new) }
     ensures failed { IfErr result IsFailure }
 {
     match machine.restart() {
@@ -60,25 +61,40 @@ fn reopen<D: Crash>(machine: &mut PadMachine<D>) -> Result<(), WorldBad>
     }
 }
 
-/// The take that the crash comes into, where there is a message. Whether its record is kept, the disk decides.
-fn break_off<D: Disk>(
+/// The crash comes into a take, where there is a message, after so many device calls of it; and the machine is started
+/// again with the image that is asked for.
+fn break_off<D: Crash>(
     machine: &mut PadMachine<D>,
     first: Option<(Session, Sent)>,
+    calls: u64,
+    image: Image,
     now: u64,
 ) -> Result<(), WorldBad>
-    ensures breaks { (pad : PadState) (message : Option (Session × Message)) → first ≡ option_map taken_of message → IsAt D.told D.failures machine.old pad
-        → IfOk result (λ _. BreaksOff D.told D.failures pad now message machine.new) }
+    ensures breaks { (alone : Bool) (rs : List Record) (pad : PadState) (message : Option (Session × Message)) → first ≡ option_map taken_of message
+        → IsAt D.told D.failures D.stops_alone alone rs machine.old pad
+        → IfOk result (λ _. BreaksOff D.told D.failures D.stops_alone alone rs pad now message calls image machine.new) }
     ensures failed { IfErr result IsFailure }
 {
     let Some((session, sent)) = first else {
-        return Ok(());
+        return reopen(machine);
     };
     let Sent { base, change } = sent;
     let Ok(change) = change else {
-        return Ok(());
+        return reopen(machine);
     };
     let _normal = change.ops();
-    match machine.accept(session, base, change, now) {
+    match machine.accept_stopped(calls, image, session, base, change, now) {
+        Ok(taken) => unheard(taken),
+        Err(bad) => Err(failure(bad)),
+    }
+}
+
+/// What a take was answered that the crash came into nobody hears, but that memory was wanting for it.
+fn unheard(taken: Result<Committed, PadBad>) -> Result<(), WorldBad>
+    ensures heard { OnOk result (taken ≡ Err bad.NoMemory → ⊥) }
+    ensures failed { IfErr result IsFailure }
+{
+    match taken {
         Err(PadBad::NoMemory) => Err(WorldBad::NoMemory),
         _ => Ok(()),
     }
@@ -123,8 +139,8 @@ fn first_of(conn: &mut Conn) -> Option<(Session, Sent)>
 
 /// The number of the opening, and the head where the pad is there.
 fn opening<D: Disk>(machine: &mut PadMachine<D>) -> Result<Shown, WorldBad>
-    ensures { (pad : PadState) → IsAt D.told D.failures machine.old pad
-        → MatchResult result (λ shown. (shown ≡ shows_opening pad) × IsAt D.told D.failures machine.new pad) IsFailure }
+    ensures { (alone : Bool) (rs : List Record) (pad : PadState) → IsAt D.told D.failures D.stops_alone alone rs machine.old pad
+        → MatchResult result (λ shown. (shown ≡ shows_opening pad) × IsAt D.told D.failures D.stops_alone alone rs machine.new pad) IsFailure }
 {
     let epoch = machine.epoch();
     match machine.status() {

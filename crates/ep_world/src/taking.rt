@@ -1,6 +1,6 @@
 //! The server takes messages.
 
-ghost use Rattle.std.specs.Prelude.{◌≡◌, ℕ, true, Some, MatchResult};
+ghost use Rattle.std.specs.Prelude.{◌≡◌, ℕ, Bool, List, true, Some, MatchResult};
 ghost use Rattle.ep_cs.specs.EditFits.{is_edit};
 ghost use Rattle.ep_history.specs.Pad.{PadState, leave};
 ghost use Rattle.ep_schedule.specs.World.{Message, Conn as AConn, Member as AMember, WorldState};
@@ -15,6 +15,7 @@ ghost use Rattle.ep_step.specs.Telling.{told_by};
 ghost use Rattle.ep_event.specs.declared.shown.Shown.TheVariants as shown;
 ghost use Rattle.ep_world.specs.Shows.{shows_made};
 ghost use Rattle.ep_world.specs.Taking.{Brings, Settles, closing_of, closing_word, not_made, shows_late, shows_took};
+ghost use Rattle.ep_history.specs.declared.record.Record.{Record};
 
 use crate::actors::Actor;
 use crate::bad::{WorldBad, failure};
@@ -41,7 +42,7 @@ pub(crate) enum Took {
 impl<D: Crash> World<D> {
     /// The server takes the first message of a name.
     pub(crate) fn take(&mut self, name: Units, now: u64) -> Result<Shown, WorldBad>
-        ensures { Plays D.told D.failures self.old now (event.Take name) result self.new }
+        ensures { Plays D.told D.failures D.stops_alone self.old now (event.Take name) result self.new }
     {
         match self.actors.take(&name) {
             None => Err(WorldBad::Unknown),
@@ -51,8 +52,8 @@ impl<D: Crash> World<D> {
     }
 
     fn take_of_guest(&mut self, name: Units, mut conn: Conn, now: u64) -> Result<Shown, WorldBad>
-        ensures { (w : WorldState) (ks : Kepts) (c : AConn) → w.actors name ≡ Guest c → conn ≡ conn_of c → StandsBut D.told D.failures self.old name w ks
-            → Comes D.told D.failures w ks now (event.Take name) self.new result }
+        ensures { (alone : Bool) (rs : List Record) (w : WorldState) (ks : Kepts) (c : AConn) → w.actors name ≡ Guest c → conn ≡ conn_of c → StandsBut D.told D.failures D.stops_alone alone rs self.old name w ks
+            → Comes D.told D.failures D.stops_alone alone rs w ks now (event.Take name) self.new result }
     {
         let session = conn.session();
         let Some(sent) = conn.take() else {
@@ -76,8 +77,8 @@ impl<D: Crash> World<D> {
         mut member: Member,
         now: u64,
     ) -> Result<Shown, WorldBad>
-        ensures { (w : WorldState) (ks : Kepts) (m : AMember) → w.actors name ≡ Named m → member ≡ member_of m (ks name) → StandsBut D.told D.failures self.old name w ks
-            → Comes D.told D.failures w ks now (event.Take name) self.new result }
+        ensures { (alone : Bool) (rs : List Record) (w : WorldState) (ks : Kepts) (m : AMember) → w.actors name ≡ Named m → member ≡ member_of m (ks name) → StandsBut D.told D.failures D.stops_alone alone rs self.old name w ks
+            → Comes D.told D.failures D.stops_alone alone rs w ks now (event.Take name) self.new result }
     {
         let session = member.conn.session();
         let Some(sent) = member.conn.take() else {
@@ -98,7 +99,7 @@ impl<D: Crash> World<D> {
 
     /// The server takes the first message of the connection that a client had before its last resumption.
     pub(crate) fn late(&mut self, name: Units, now: u64) -> Result<Shown, WorldBad>
-        ensures { Plays D.told D.failures self.old now (event.Late name) result self.new }
+        ensures { Plays D.told D.failures D.stops_alone self.old now (event.Late name) result self.new }
     {
         let mut member = self.actors.member(self.alloc, &name)?;
         let Some((session, sent)) = member.late() else {
@@ -124,8 +125,8 @@ fn bring_or_leave<D: Disk>(
     sent: Sent,
     now: u64,
 ) -> Result<Took, WorldBad>
-    ensures { (pad : PadState) (msg : Message) → sent ≡ sent_of msg → IsAt D.told D.failures machine.old pad
-        → MatchResult result (Settles D.told D.failures pad session msg now machine.new) IsFailure }
+    ensures { (alone : Bool) (rs : List Record) (pad : PadState) (msg : Message) → sent ≡ sent_of msg → IsAt D.told D.failures D.stops_alone alone rs machine.old pad
+        → MatchResult result (Settles D.told D.failures D.stops_alone alone rs pad session msg now machine.new) IsFailure }
 {
     match bring(machine, session, sent, now) {
         Ok(took) => leave_unless_made(machine, session, took),
@@ -139,8 +140,8 @@ fn leave_unless_made<D: Disk>(
     session: Session,
     took: Took,
 ) -> Result<Took, WorldBad>
-    ensures { (pad : PadState) (msg : Message) (now : ℕ) → Brings D.told D.failures pad session msg now machine.old took
-        → MatchResult result (Settles D.told D.failures pad session msg now machine.new) IsFailure }
+    ensures { (alone : Bool) (rs : List Record) (pad : PadState) (msg : Message) (now : ℕ) → Brings D.told D.failures D.stops_alone alone rs pad session msg now machine.old took
+        → MatchResult result (Settles D.told D.failures D.stops_alone alone rs pad session msg now machine.new) IsFailure }
 {
     match took {
         Took::Made(made) => Ok(Took::Made(made)),
@@ -162,8 +163,8 @@ pub(crate) fn bring<D: Disk>(
     sent: Sent,
     now: u64,
 ) -> Result<Took, WorldBad>
-    ensures { (pad : PadState) (msg : Message) → sent ≡ sent_of msg → IsAt D.told D.failures machine.old pad
-        → MatchResult result (Brings D.told D.failures pad session msg now machine.new) IsFailure }
+    ensures { (alone : Bool) (rs : List Record) (pad : PadState) (msg : Message) → sent ≡ sent_of msg → IsAt D.told D.failures D.stops_alone alone rs machine.old pad
+        → MatchResult result (Brings D.told D.failures D.stops_alone alone rs pad session msg now machine.new) IsFailure }
 {
     let Sent { base, change } = sent;
     match change {
@@ -180,8 +181,8 @@ fn accept<D: Disk>(
     change: Change,
     now: u64,
 ) -> Result<Took, WorldBad>
-    ensures { (pad : PadState) (msg : Message) → msg.base ≡ base → msg.change ≡ change → is_edit change.edit ≡ true → IsAt D.told D.failures machine.old pad
-        → MatchResult result (Brings D.told D.failures pad session msg now machine.new) IsFailure }
+    ensures { (alone : Bool) (rs : List Record) (pad : PadState) (msg : Message) → msg.base ≡ base → msg.change ≡ change → is_edit change.edit ≡ true → IsAt D.told D.failures D.stops_alone alone rs machine.old pad
+        → MatchResult result (Brings D.told D.failures D.stops_alone alone rs pad session msg now machine.new) IsFailure }
 {
     match machine.accept(session, base, change, now) {
         Ok(made) => Ok(Took::Made(made)),
@@ -203,8 +204,8 @@ fn not_made(bad: PadBad) -> Result<Took, WorldBad>
 
 /// A session whose message isn't taken is left, if it was live.
 fn give_leave<D: Disk>(machine: &mut PadMachine<D>, session: Session) -> Result<(), WorldBad>
-    ensures { (pad : PadState) → IsAt D.told D.failures machine.old pad
-        → MatchResult result (λ _. IsAt D.told D.failures machine.new (leave pad session)) IsFailure }
+    ensures { (alone : Bool) (rs : List Record) (pad : PadState) → IsAt D.told D.failures D.stops_alone alone rs machine.old pad
+        → MatchResult result (λ _. IsAt D.told D.failures D.stops_alone alone rs machine.new (leave pad session)) IsFailure }
 {
     match machine.leave(session) {
         Ok(()) => Ok(()),

@@ -1,6 +1,6 @@
 //! What goes down to clients, and what they hear.
 
-ghost use Rattle.std.specs.Prelude.{◌≡◌, ℕ, if◌then◌else◌, IfErr, IfOk, OnOk};
+ghost use Rattle.std.specs.Prelude.{◌≡◌, ℕ, if◌then◌else◌, Bool, List, IfErr, IfOk, OnOk};
 ghost use Rattle.ep_history.specs.Pad.{PadState};
 ghost use Rattle.ep_event.specs.declared.event.Event.TheVariants as event;
 ghost use Rattle.ep_event.specs.declared.shown.Shown.TheVariants as shown;
@@ -10,6 +10,7 @@ ghost use Rattle.ep_world.specs.Failing.{IsFailure};
 ghost use Rattle.ep_world.specs.Standing.{IsAt, Plays};
 ghost use Rattle.ep_world.specs.Pushing.{TellsMember, TellsOf};
 ghost use Rattle.ep_world.specs.Telling.{ended_by, is_first, pushed_by, pushed_next, pushed_rev, shows_pushed, told_next, told_rev};
+ghost use Rattle.ep_history.specs.declared.record.Record.{Record};
 
 use crate::bad::{WorldBad, failure};
 use crate::conn::Conn;
@@ -34,7 +35,7 @@ pub(crate) enum Pushed {
 impl<D: Crash> World<D> {
     /// The server sends a client the next that it is to be told.
     pub(crate) fn push(&mut self, name: Units) -> Result<Shown, WorldBad>
-        ensures { (now : ℕ) → Plays D.told D.failures self.old now (event.Push name) result self.new }
+        ensures { (now : ℕ) → Plays D.told D.failures D.stops_alone self.old now (event.Push name) result self.new }
     {
         let mut member = self.actors.member(self.alloc, &name)?;
         let pushed = tell_member(&mut self.machine, &mut member)?;
@@ -44,7 +45,7 @@ impl<D: Crash> World<D> {
 
     /// A client hears the first of its queue down.
     pub(crate) fn hear(&mut self, name: Units) -> Result<Shown, WorldBad>
-        ensures { (now : ℕ) → Plays D.told D.failures self.old now (event.Hear name) result self.new }
+        ensures { (now : ℕ) → Plays D.told D.failures D.stops_alone self.old now (event.Hear name) result self.new }
     {
         let mut member = self.actors.member(self.alloc, &name)?;
         let shown = member.hear(self.alloc, name.copy(self.alloc)?)?;
@@ -54,7 +55,7 @@ impl<D: Crash> World<D> {
 
     /// A client's connection is lost.
     pub(crate) fn lose(&mut self, name: Units) -> Result<Shown, WorldBad>
-        ensures { (now : ℕ) → Plays D.told D.failures self.old now (event.Lose name) result self.new }
+        ensures { (now : ℕ) → Plays D.told D.failures D.stops_alone self.old now (event.Lose name) result self.new }
     {
         let mut member = self.actors.member(self.alloc, &name)?;
         let was = member.client.is_connected();
@@ -84,7 +85,7 @@ fn tell_member<D: Disk>(
     machine: &mut PadMachine<D>,
     member: &mut Member,
 ) -> Result<Pushed, WorldBad>
-    ensures told { (pad : PadState) → IsAt D.told D.failures machine.old pad → IfOk result (TellsMember D.told D.failures pad member.old machine.new member.new) }
+    ensures told { (alone : Bool) (rs : List Record) (pad : PadState) → IsAt D.told D.failures D.stops_alone alone rs machine.old pad → IfOk result (TellsMember D.told D.failures D.stops_alone alone rs pad member.old machine.new member.new) }
     ensures failed { IfErr result IsFailure }
 {
     if !member.may_be_told() {
@@ -95,10 +96,10 @@ fn tell_member<D: Disk>(
 
 /// The next of what a session has not been told enters its queue down.
 fn tell<D: Disk>(machine: &mut PadMachine<D>, conn: &mut Conn) -> Result<Pushed, WorldBad>
-    ensures told { (pad : PadState) → IsAt D.told D.failures machine.old pad → IfOk result (TellsOf D.told D.failures pad conn.old machine.new conn.new) }
+    ensures told { (alone : Bool) (rs : List Record) (pad : PadState) → IsAt D.told D.failures D.stops_alone alone rs machine.old pad → IfOk result (TellsOf D.told D.failures D.stops_alone alone rs pad conn.old machine.new conn.new) }
     ensures failed { IfErr result IsFailure }
 {
-    match machine.fetch(conn.session, conn.sent, conn.nops) {
+    match machine.fetch_first(conn.session, conn.sent, conn.nops, 1) {
         Ok(fetched) => Ok(tell_next(conn, fetched)?),
         Err(PadBad::Dead(why)) => Ok(tell_end(conn, why)?),
         Err(bad) => Err(failure(bad)),

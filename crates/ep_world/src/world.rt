@@ -4,6 +4,7 @@ ghost use Rattle.std.specs.Prelude.{◌≡◌, ℕ, [], IfOk};
 ghost use Rattle.ep_schedule.specs.World.{start};
 ghost use Rattle.ep_schedule.specs.Kepts.{nobodies};
 ghost use Rattle.ep_pad_file.specs.Standing.{Holds};
+ghost use Rattle.ep_world.specs.Journal.{begun};
 ghost use Rattle.ep_world.specs.Standing.{Plays, StandsFor};
 
 use crate::actors::Actors;
@@ -28,7 +29,7 @@ impl<D: Crash> World<D> {
     pub fn new(alloc: Global, disk: D, limits: Limits, id: PadId) -> Result<World<D>, WorldBad>
     where
         D: Drop,
-        ensures { Holds (D.told disk) [] → IfOk result (λ world. StandsFor D.told D.failures world (start limits id) nobodies) }
+        ensures { Holds (D.told disk) [] → IfOk result (λ world. StandsFor D.told D.failures D.stops_alone (D.stops_alone disk) begun world (start limits id) nobodies) }
     {
         match PadMachine::open(alloc, disk, limits) {
             Ok(machine) => Ok(World {
@@ -43,7 +44,7 @@ impl<D: Crash> World<D> {
 
     /// One event at this moment, in milliseconds since 1970.
     pub fn step(&mut self, now: u64, event: Event) -> Result<Shown, WorldBad>
-        ensures { Plays D.told D.failures self.old now event result self.new }
+        ensures { Plays D.told D.failures D.stops_alone self.old now event result self.new }
     {
         match event {
             Event::Create { text } => self.create(&text, now),

@@ -1,7 +1,7 @@
 use Rattle.std.proofs.Common.{◌≡◌, ◌∙◌, ℕ, ◌+◌, ◌-◌, ◌<◌, ◌^◌, ◌++◌, map, length, take, drop, sym, ap, subst, arith}
 use Rattle.std.proofs.lemmas.List.{take_rest}
 use Rattle.ep_attr.specs.AttrMap.{none}
-use Rattle.ep_cs.specs.Doc.{dressed}
+use Rattle.ep_cs.specs.Doc.{painted}
 use Rattle.ep_cs.specs.Edit.{apply}
 use Rattle.ep_cs.specs.Runs.{passed, inserted}
 use Rattle.ep_apply.specs.Makes.{run_makes}
@@ -41,7 +41,7 @@ finish-requires c =
     let n : c.len.result - at ≡ length c.args.doc.now - at = ap (λ (k : ℕ). k - at) c.len.ensures in
     let is : c.keep.new.out ≡ apply c.args.change.now.edit c.args.doc.now =
     over_all c.args.change.now c.args.doc.now c.ops-op-items.result.now c.as_slice-bank.result.now out c.loop-op.rest c.keep.new.out c.loop-op.op-index at c.loop-op.used w c.loop-op.invariant (omega arith)
-    (c.in_ok-keep.ensures.done ∙ (λ i. out ++ map (λ d. dressed d (c.none-as_it_is.ensures i)) (take (n i) (c.loop-op.invariant.rest_is i))) ∙ ap (λ cs. out ++ map (λ d. dressed d none) cs) (take_rest c.args.doc.now at)) in
+    (c.in_ok-keep.ensures.done ∙ (λ i. out ++ map (λ d. painted d (c.none-as_it_is.ensures i)) (take (n i) (c.loop-op.invariant.rest_is i))) ∙ ap (λ cs. out ++ map (λ d. painted d none) cs) (take_rest c.args.doc.now at)) in
     omega (arith, ap length is, w.short)
 
 pub returns : goal.returns
@@ -51,7 +51,7 @@ returns c =
     let out = c.loop-op.out in
     let n : c.len.result - at ≡ length c.args.doc.now - at = ap (λ (k : ℕ). k - at) c.len.ensures in
     c.in_ok-body.ensures ∙ over_all c.args.change.now c.args.doc.now c.ops-op-items.result.now c.as_slice-bank.result.now out c.loop-op.rest c.keep.new.out c.loop-op.op-index at c.loop-op.used w c.loop-op.invariant (omega arith)
-    (c.in_ok-keep.ensures.done ∙ (λ i. out ++ map (λ d. dressed d (c.none-as_it_is.ensures i)) (take (n i) (c.loop-op.invariant.rest_is i))) ∙ ap (λ cs. out ++ map (λ d. dressed d none) cs) (take_rest c.args.doc.now at))
+    (c.in_ok-keep.ensures.done ∙ (λ i. out ++ map (λ d. painted d (c.none-as_it_is.ensures i)) (take (n i) (c.loop-op.invariant.rest_is i))) ∙ ap (λ cs. out ++ map (λ d. painted d none) cs) (take_rest c.args.doc.now at))
 
 pub invariant_of-result : goal.invariant_of-result
 invariant_of-result c =
@@ -61,7 +61,7 @@ invariant_of-result c =
     let n : c.len.result - at ≡ length c.args.doc.now - at = ap (λ (k : ℕ). k - at) c.len.ensures in
     let is : c.in_ok-body.body ≡ apply c.args.change.now.edit c.args.doc.now =
     c.in_ok-body.ensures ∙ over_all c.args.change.now c.args.doc.now c.ops-op-items.result.now c.as_slice-bank.result.now out c.loop-op.rest c.keep.new.out c.loop-op.op-index at c.loop-op.used w c.loop-op.invariant (omega arith)
-    (c.in_ok-keep.ensures.done ∙ (λ i. out ++ map (λ d. dressed d (c.none-as_it_is.ensures i)) (take (n i) (c.loop-op.invariant.rest_is i))) ∙ ap (λ cs. out ++ map (λ d. dressed d none) cs) (take_rest c.args.doc.now at)) in
+    (c.in_ok-keep.ensures.done ∙ (λ i. out ++ map (λ d. painted d (c.none-as_it_is.ensures i)) (take (n i) (c.loop-op.invariant.rest_is i))) ∙ ap (λ cs. out ++ map (λ d. painted d none) cs) (take_rest c.args.doc.now at)) in
     record {
       document = document_is (apply c.args.change.now.edit c.args.doc.now) _ (document_made c.args.change.now c.args.doc.now c.ops-op-items.ensures.normal c.requires c.reading-rest.ensures.document) is;
       units = c.new_len.ensures ∙ sym (ap length is ∙ length_after c.args.change.now.edit c.args.doc.now c.requires.length);

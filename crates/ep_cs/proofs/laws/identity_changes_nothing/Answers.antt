@@ -2,4 +2,4 @@ use Rattle.ep_cs.proofs.Identity.{apply-identity, is_identity-identity, only_ide
 use Rattle.ep_cs.proofs.laws.identity_changes_nothing.Goals as goal
 
 pub returns : goal.returns
-returns c = record { applied = apply-identity; told = is_identity-identity; one = only_identity }
+returns c = record { applied = apply-identity; itself = is_identity-identity; one = only_identity }

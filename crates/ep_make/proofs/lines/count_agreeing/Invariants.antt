@@ -7,5 +7,5 @@ use Rattle.ep_make.proofs.lines.count_agreeing.Given as goal
 abbrev pub invariant-loop-k : goal.invariant-loop-k
 invariant-loop-k g l = record {
   few : l.agreeing ≤ l.k;
-  counts : (w : WorldState) → IsOf g.D.Disk.told g.D.Device.failures l.world w → l.agreeing ≡ seen_by w l.doc l.k;
+  counts : (w : WorldState) → IsOf g.D.Disk.told g.D.Device.failures g.D.Disk.stops_alone l.world w → l.agreeing ≡ seen_by w l.doc l.k;
 }

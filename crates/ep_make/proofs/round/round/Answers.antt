@@ -11,7 +11,7 @@ returns g c = λ w at.
     let n = c.in_ok-name.name in
     let e = c.in_ok-edit.edit in
     let y = c.draw_name.new.lots.number in
-    let p = subst (λ m. IsOf g.D.Disk.told g.D.Device.failures c.play.new.world (after w (Edit m e))) c.in_ok-copy.ensures (c.in_ok-play.ensures w at).1 in
+    let p = subst (λ m. IsOf g.D.Disk.told g.D.Device.failures g.D.Disk.stops_alone c.play.new.world (after w (Edit m e))) c.in_ok-copy.ensures (c.in_ok-play.ensures w at).1 in
     let s = c.in_ok-send.ensures (after w (Edit n e)) p in
     let r = c.in_ok-rest.ensures (sent (after w (Edit n e)) n) s in (
       r.0,

@@ -3,4 +3,4 @@ use Rattle.ep_make.specs.Schedule.{Each, Settles}
 use Rattle.ep_make.proofs.round.settle_all.Given as goal
 
 abbrev pub invariant-loop-k : goal.invariant-loop-k
-invariant-loop-k g l = Leads g.D.Disk.told g.D.Device.failures (Each (Settles 3) l.k) l.fn.world l.world
+invariant-loop-k g l = Leads g.D.Disk.told g.D.Device.failures g.D.Disk.stops_alone (Each (Settles 3) l.k) l.fn.world l.world

@@ -8,5 +8,5 @@ use Rattle.ep_make.proofs.round.view_length.Goals as goal
 pub returns-clause-length : goal.returns-clause-length
 unfolding view_length
 returns-clause-length g c = λ w at.
-    let here = map_some _ c.view.result c.in-Some.client _ (c.view.ensures w at.kepts at.stands) c.in-Some.is in
+    let here = map_some _ c.view.result c.in-Some.client _ (c.view.ensures at.alone at.journal w at.kepts at.stands) c.in-Some.is in
     subst (λ k. IfOk c.units_of.result (λ u. u ≡ k)) (sym (seen w at.kepts c.args.name.now c.in-Some.client.now 0 (λ (d : Doc). length d) at.run here)) c.units_of.ensures.length

@@ -4,11 +4,11 @@ use Rattle.ep_run.proofs.Running.{ends_made, ends_part, ends_writes, known_code}
 use Rattle.ep_run.proofs.play.play.Goals as goal
 
 pub returns-clause-part : goal.returns-clause-part
-returns-clause-part g c = ends_part _ _ c.args.id (g.K.Sink.held c.args.sink.now) (g.K.Sink.held c.play_script.new.sink) (g.S.Source.left c.args.source.now) c.play_script.result c.play_script.ensures.ends
+returns-clause-part g c = ends_part _ _ _ c.args.id (g.K.Sink.held c.args.sink.now) (g.K.Sink.held c.play_script.new.sink) (g.S.Source.left c.args.source.now) c.play_script.result c.play_script.ensures.ends
 
 pub returns-clause-headline : goal.returns-clause-headline
 returns-clause-headline g c =
-    rw c.outcome.ensures.world (ends_made _ _ c.args.id (g.K.Sink.held c.args.sink.now) (g.K.Sink.held c.play_script.new.sink) (g.S.Source.left c.args.source.now) c.play_script.result c.play_script.ensures.ends)
+    rw c.outcome.ensures.world (ends_made _ _ _ c.args.id (g.K.Sink.held c.args.sink.now) (g.K.Sink.held c.play_script.new.sink) (g.S.Source.left c.args.source.now) c.play_script.result c.play_script.ensures.ends)
 
 pub returns-clause-known : goal.returns-clause-known
 returns-clause-known g c = rw c.outcome.ensures.status (known_code c.play_script.result)
@@ -16,4 +16,4 @@ returns-clause-known g c = rw c.outcome.ensures.status (known_code c.play_script
 pub returns-clause-writes : goal.returns-clause-writes
 returns-clause-writes g c = λ k.
     subst (λ n. Writes c.args.id (g.S.Source.left c.args.source.now) (g.K.Sink.held c.args.sink.now) (g.K.Sink.held c.play_script.new.sink) n) (sym c.outcome.ensures.status)
-    (ends_writes _ _ c.args.id (g.K.Sink.held c.args.sink.now) (g.K.Sink.held c.play_script.new.sink) (g.S.Source.left c.args.source.now) c.play_script.result c.play_script.ensures.ends (subst (λ n. IsEnd n) c.outcome.ensures.status k))
+    (ends_writes _ _ _ c.args.id (g.K.Sink.held c.args.sink.now) (g.K.Sink.held c.play_script.new.sink) (g.S.Source.left c.args.source.now) c.play_script.result c.play_script.ensures.ends (subst (λ n. IsEnd n) c.outcome.ensures.status k))

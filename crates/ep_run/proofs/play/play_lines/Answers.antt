@@ -8,7 +8,7 @@ use Rattle.ep_run.proofs.play.play_lines.Goals as goal
 
 pub loop-k-init : goal.loop-k-init
 loop-k-init g c = record {
-  read = λ s h. opens g.D.Disk.told g.D.Device.failures c.args.stage.now c.new-script.result s (g.S.Source.left c.args.source.now) (g.K.Sink.held c.args.sink.now) c.new-script.ensures.held c.new-script.ensures.place h;
+  read = λ s h. opens g.D.Disk.told g.D.Device.failures g.D.Disk.stops_alone c.args.stage.now c.new-script.result s (g.S.Source.left c.args.source.now) (g.K.Sink.held c.args.sink.now) c.new-script.ensures.held c.new-script.ensures.place h;
   over = λ o. absurd (true≢false (sym o ∙ c.new-script.ensures.over));
   source_later = omega arith;
   source_steady = search rules;
@@ -20,13 +20,13 @@ pub returns-in_err-line-clause-ends : goal.returns-in_err-line-clause-ends
 returns-in_err-line-clause-ends g c = λ s h.
     let bad = bad_of_script c.in_err-line.field-0.0 in
     let is : c.from_residual.result ≡ Err bad = search rules in
-    script-as g.D.Disk.told g.D.Device.failures s (g.S.Source.left c.args.source.now) (g.K.Sink.held c.args.sink.now) (g.K.Sink.held c.loop-k.sink) _ _ (ap (with_world c.loop-k.stage.world) is)
-    (fails g.D.Disk.told g.D.Device.failures c.loop-k.stage c.loop-k.script s _ _ _ _ c.loop-k.k (c.loop-k.invariant.read s h) c.loop-k.invariant.over bad)
+    script-as g.D.Disk.told g.D.Device.failures g.D.Disk.stops_alone s (g.S.Source.left c.args.source.now) (g.K.Sink.held c.args.sink.now) (g.K.Sink.held c.loop-k.sink) _ _ (ap (with_world c.loop-k.stage.world) is)
+    (fails g.D.Disk.told g.D.Device.failures g.D.Disk.stops_alone c.loop-k.stage c.loop-k.script s _ _ _ _ c.loop-k.k (c.loop-k.invariant.read s h) c.loop-k.invariant.over bad)
 
 pub returns-in_default-clause-ends : goal.returns-in_default-clause-ends
 returns-in_default-clause-ends g c = λ s h.
     let x = c.in_ok-line.ensures.next in
-    over-all g.D.Disk.told g.D.Device.failures c.loop-k.stage c.loop-k.script c.next_line.new.self s _ _ _ _ _ c.loop-k.k x.0 (c.loop-k.invariant.read s h) x.1 (c.in_ok-line.ensures.over c.loop-k.invariant.over)
+    over-all g.D.Disk.told g.D.Device.failures g.D.Disk.stops_alone c.loop-k.stage c.loop-k.script c.next_line.new.self s _ _ _ _ _ c.loop-k.k x.0 (c.loop-k.invariant.read s h) x.1 (c.in_ok-line.ensures.over c.loop-k.invariant.over)
     (subst (λ o. Nexts c.loop-k.script c.next_line.new.self (g.S.Source.left c.loop-k.source) (g.S.Source.left c.next_line.new.source) x.0 (Ok o)) c.in_default.is x.2)
 
 pub returns-in_default-clause-read : goal.returns-in_default-clause-read
@@ -39,8 +39,8 @@ pub returns-in_err-write-in-Ok-clause-ends : goal.returns-in_err-write-in-Ok-cla
 returns-in_err-write-in-Ok-clause-ends g c = λ s h.
     let x = c.in_ok-line.ensures.next in
     let is : c.from_residual-in_err-write-in-Ok.result ≡ Err SinkFault = search rules in
-    script-as g.D.Disk.told g.D.Device.failures s (g.S.Source.left c.args.source.now) (g.K.Sink.held c.args.sink.now) (g.K.Sink.held c.write.new.self) _ _ (ap (with_world c.play_cut.new.self.world) is)
-    (unwritten g.D.Disk.told g.D.Device.failures c.loop-k.stage c.loop-k.script c.next_line.new.self s _ _ _ _ _ c.loop-k.k x.0 (c.loop-k.invariant.read s h) x.1 (c.in_ok-line.ensures.over c.loop-k.invariant.over) c.in-Some.line
+    script-as g.D.Disk.told g.D.Device.failures g.D.Disk.stops_alone s (g.S.Source.left c.args.source.now) (g.K.Sink.held c.args.sink.now) (g.K.Sink.held c.write.new.self) _ _ (ap (with_world c.play_cut.new.self.world) is)
+    (unwritten g.D.Disk.told g.D.Device.failures g.D.Disk.stops_alone c.loop-k.stage c.loop-k.script c.next_line.new.self s _ _ _ _ _ c.loop-k.k x.0 (c.loop-k.invariant.read s h) x.1 (c.in_ok-line.ensures.over c.loop-k.invariant.over) c.in-Some.line
     (subst (λ o. Nexts c.loop-k.script c.next_line.new.self (g.S.Source.left c.loop-k.source) (g.S.Source.left c.next_line.new.source) x.0 (Ok o)) c.in-Some.is x.2)
     c.play_cut.new.self c.in-Ok.text (g.K.Sink.held c.write.new.self) c.in-Ok.ensures (subst (λ t. TakesPart (g.K.Sink.held c.loop-k.sink) (g.K.Sink.held c.write.new.self) t) c.as_bytes.ensures.value c.in_err-write-in-Ok.ensures.err) SinkFault)
 
@@ -49,22 +49,22 @@ returns-in_err-end-in-Err-At-clause-ends g c = λ s h.
     let x = c.in_ok-line.ensures.next in
     let bad = c.in_err-end-in-Err-At.field-0.0 in
     let is : c.from_residual-in_err-end-in-Err-At.result ≡ Err bad = search rules in
-    script-as g.D.Disk.told g.D.Device.failures s (g.S.Source.left c.args.source.now) (g.K.Sink.held c.args.sink.now) (g.K.Sink.held c.end.new.sink) _ _ (ap (with_world c.play_cut.new.self.world) is)
-    (stops-part g.D.Disk.told g.D.Device.failures c.loop-k.stage c.loop-k.script c.next_line.new.self s _ _ _ _ _ c.loop-k.k x.0 (c.loop-k.invariant.read s h) x.1 (c.in_ok-line.ensures.over c.loop-k.invariant.over) c.in-Some.line
+    script-as g.D.Disk.told g.D.Device.failures g.D.Disk.stops_alone s (g.S.Source.left c.args.source.now) (g.K.Sink.held c.args.sink.now) (g.K.Sink.held c.end.new.sink) _ _ (ap (with_world c.play_cut.new.self.world) is)
+    (stops-part g.D.Disk.told g.D.Device.failures g.D.Disk.stops_alone c.loop-k.stage c.loop-k.script c.next_line.new.self s _ _ _ _ _ c.loop-k.k x.0 (c.loop-k.invariant.read s h) x.1 (c.in_ok-line.ensures.over c.loop-k.invariant.over) c.in-Some.line
     (subst (λ o. Nexts c.loop-k.script c.next_line.new.self (g.S.Source.left c.loop-k.source) (g.S.Source.left c.next_line.new.source) x.0 (Ok o)) c.in-Some.is x.2)
     c.play_cut.new.self c.in-Err-At.reason (g.K.Sink.held c.end.new.sink) (λ at k. rw c.in-Err-At.field-0-is at (c.in-Err-At.ensures at k)) c.in_err-end-in-Err-At.ensures.part bad)
 
 pub returns-in-Err-At-clause-ends : goal.returns-in-Err-At-clause-ends
 returns-in-Err-At-clause-ends g c = λ s h.
     let x = c.in_ok-line.ensures.next in
-    stops-whole g.D.Disk.told g.D.Device.failures c.loop-k.stage c.loop-k.script c.next_line.new.self s _ _ _ _ _ c.loop-k.k x.0 (c.loop-k.invariant.read s h) x.1 (c.in_ok-line.ensures.over c.loop-k.invariant.over) c.in-Some.line
+    stops-whole g.D.Disk.told g.D.Device.failures g.D.Disk.stops_alone c.loop-k.stage c.loop-k.script c.next_line.new.self s _ _ _ _ _ c.loop-k.k x.0 (c.loop-k.invariant.read s h) x.1 (c.in_ok-line.ensures.over c.loop-k.invariant.over) c.in-Some.line
     (subst (λ o. Nexts c.loop-k.script c.next_line.new.self (g.S.Source.left c.loop-k.source) (g.S.Source.left c.next_line.new.source) x.0 (Ok o)) c.in-Some.is x.2)
     c.play_cut.new.self c.in-Err-At.reason (g.K.Sink.held c.end.new.sink) (λ at k. rw c.in-Err-At.field-0-is at (c.in-Err-At.ensures at k)) c.in_ok-end-in-Err-At.ensures.whole
 
 pub returns-in-Err-Failed-clause-ends : goal.returns-in-Err-Failed-clause-ends
 returns-in-Err-Failed-clause-ends g c = λ s h.
     let x = c.in_ok-line.ensures.next in
-    gives-up g.D.Disk.told g.D.Device.failures c.loop-k.stage c.loop-k.script c.next_line.new.self s _ _ _ _ _ c.loop-k.k x.0 (c.loop-k.invariant.read s h) x.1 (c.in_ok-line.ensures.over c.loop-k.invariant.over) c.in-Some.line
+    gives-up g.D.Disk.told g.D.Device.failures g.D.Disk.stops_alone c.loop-k.stage c.loop-k.script c.next_line.new.self s _ _ _ _ _ c.loop-k.k x.0 (c.loop-k.invariant.read s h) x.1 (c.in_ok-line.ensures.over c.loop-k.invariant.over) c.in-Some.line
     (subst (λ o. Nexts c.loop-k.script c.next_line.new.self (g.S.Source.left c.loop-k.source) (g.S.Source.left c.next_line.new.source) x.0 (Ok o)) c.in-Some.is x.2)
     c.play_cut.new.self Failed
 
@@ -72,7 +72,7 @@ pub loop-k-preserved : goal.loop-k-preserved
 loop-k-preserved g c =
     let x = c.in_ok-line.ensures.next in record {
       read = λ s h.
-          goes-on g.D.Disk.told g.D.Device.failures c.loop-k.stage c.loop-k.script c.next_line.new.self s _ _ _ _ _ c.loop-k.k x.0 (c.loop-k.invariant.read s h) x.1 c.in-Some.line
+          goes-on g.D.Disk.told g.D.Device.failures g.D.Disk.stops_alone c.loop-k.stage c.loop-k.script c.next_line.new.self s _ _ _ _ _ c.loop-k.k x.0 (c.loop-k.invariant.read s h) x.1 c.in-Some.line
           (subst (λ o. Nexts c.loop-k.script c.next_line.new.self (g.S.Source.left c.loop-k.source) (g.S.Source.left c.next_line.new.source) x.0 (Ok o)) c.in-Some.is x.2)
           c.play_cut.new.self c.in-Ok.text (g.K.Sink.held c.write.new.self) c.in-Ok.ensures (subst (λ t. Takes (g.K.Sink.held c.loop-k.sink) (g.K.Sink.held c.write.new.self) t) c.as_bytes.ensures.value c.in_ok-write-in-Ok.ensures.ok);
       over = c.in_ok-line.ensures.over c.loop-k.invariant.over;
@@ -84,4 +84,4 @@ loop-k-preserved g c =
 
 pub returns-clause-ends : goal.returns-clause-ends
 returns-clause-ends g c = λ s h.
-    fails g.D.Disk.told g.D.Device.failures c.loop-k.stage c.loop-k.script s _ _ _ _ c.loop-k.k (c.loop-k.invariant.read s h) c.loop-k.invariant.over Failed
+    fails g.D.Disk.told g.D.Device.failures g.D.Disk.stops_alone c.loop-k.stage c.loop-k.script s _ _ _ _ c.loop-k.k (c.loop-k.invariant.read s h) c.loop-k.invariant.over Failed

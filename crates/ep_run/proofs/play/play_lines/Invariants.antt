@@ -7,8 +7,8 @@ use Rattle.ep_run.proofs.play.play_lines.Given as goal
 
 abbrev pub invariant-loop-k : goal.invariant-loop-k
 invariant-loop-k g l = record {
-  read : (s : Scene) → IsStage g.D.Disk.told g.D.Device.failures l.fn.stage s
-      → IsRead g.D.Disk.told g.D.Device.failures l.stage l.script s (g.S.Source.left l.fn.source) (g.S.Source.left l.source) (g.K.Sink.held l.fn.sink) (g.K.Sink.held l.sink) l.k;
+  read : (s : Scene) → IsStage g.D.Disk.told g.D.Device.failures g.D.Disk.stops_alone l.fn.stage s
+      → IsRead g.D.Disk.told g.D.Device.failures g.D.Disk.stops_alone l.stage l.script s (g.S.Source.left l.fn.source) (g.S.Source.left l.source) (g.K.Sink.held l.fn.sink) (g.K.Sink.held l.sink) l.k;
   over : l.script.is_over ≡ true → IsAtEnd (g.S.Source.left l.source);
   source_later : g.S.Device.failures l.fn.source ≤ g.S.Device.failures l.source;
   source_steady : g.S.Device.is_steady l.source ≡ g.S.Device.is_steady l.fn.source;

@@ -3,8 +3,6 @@ use Rattle.std.proofs.lemmas.Result.{err_from_is_err_and}
 use Rattle.serde_json.specs.View.{view}
 use Rattle.ep_cs.specs.Edit.{apply}
 use Rattle.ep_cs.specs.Fits.{Fits}
-use Rattle.ep_cs.specs.NormalRuns.{IsNormal}
-use Rattle.ep_cs.proofs.Packings.{normal_change}
 use Rattle.ep_apply.specs.Documents.{insertion}
 use Rattle.ep_pool.specs.Pool.{Pool}
 use Rattle.ep_message.specs.Sent.{IsSent}
@@ -25,7 +23,7 @@ returns-in_err-change-clause-answer c =
 
 pub apply-requires : goal.apply-requires
 apply-requires c =
-    let normal = subst IsNormal c.change.view_is (normal_change c.change.inside c.change.invariant) in
+    let normal = c.ops-runs.ensures.normal in
     let none = no_units c.in_ok-pool.pool.pairs c.in_ok-text.text c.in_ok-attribs.attribs c.in_ok-change.change c.in_ok-change.ensures.change in
     subst (λ doc. Fits c.in_ok-change.change doc) (sym c.empty.ensures) (fits_nothing c.in_ok-change.change normal none)
 
@@ -37,7 +35,7 @@ returns-clause-answer c =
 pub returns-clause-sent : goal.returns-clause-sent
 returns-clause-sent c =
     let change = c.in_ok-change.change in
-    let normal = subst IsNormal c.change.view_is (normal_change c.change.inside c.change.invariant) in
+    let normal = c.ops-runs.ensures.normal in
     let none = no_units c.in_ok-pool.pool.pairs c.in_ok-text.text c.in_ok-attribs.attribs change c.in_ok-change.ensures.change in
     let made = c.in_ok-apply.ensures ∙ ap (λ d. apply change.edit d) c.empty.ensures in
     let sent =

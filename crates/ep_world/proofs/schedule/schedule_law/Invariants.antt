@@ -8,4 +8,4 @@ use Rattle.ep_world.proofs.schedule.schedule_law.Given as goal
 abbrev pub invariant-loop-now : goal.invariant-loop-now
 invariant-loop-now g l =
     (l.yielded ++ into_iter_items l.now-iterator ≡ into_iter_items l.initial.now-iterator)
-    × (Holds (g.D.Disk.told l.fn.disk) [] → Stays g.D.Disk.told g.D.Device.failures l.world (start l.fn.limits l.fn.id) l.yielded)
+    × (Holds (g.D.Disk.told l.fn.disk) [] → Stays g.D.Disk.told g.D.Device.failures g.D.Disk.stops_alone (g.D.Disk.stops_alone l.fn.disk) l.world (start l.fn.limits l.fn.id) l.yielded)

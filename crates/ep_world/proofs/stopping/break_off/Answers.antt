@@ -1,42 +1,38 @@
-use Rattle.std.proofs.Common.{◌≡◌, Result, Ok, Err, sym, subst}
-use Rattle.std.specs.Prelude.{IfErr, IfOk}
+use Rattle.std.proofs.Common.{◌≡◌, Err}
 use Rattle.ep_history.specs.Entries.Answer.{CommitAnswer}
+use Rattle.ep_history.specs.declared.pad_bad.PadBad.TheVariants as bad
 use Rattle.ep_pad.specs.Standing.{replied}
 use Rattle.ep_step.specs.Telling.{told_by}
-use Rattle.ep_world.specs.Failing.{IsFailure}
-use Rattle.ep_world.specs.Stopping.{BreaksOff}
-use Rattle.ep_world.specs.declared.bad.WorldBad.{WorldBad}
-use Rattle.ep_world.specs.declared.bad.WorldBad.TheVariants.{NoMemory}
-use Rattle.ep_world.proofs.Crashes.{breaks-first}
-use Rattle.ep_world.proofs.stopping.break_off.Goals.{in-Err-NoMemory, in_default-accept, in_default-accept-2}
+use Rattle.ep_world.specs.Stopping.{BreaksOff, Reopens}
+use Rattle.ep_world.proofs.Crashes.{breaks-first, breaks-none, breaks-unread, if-ok, not-lacking}
 use Rattle.ep_world.proofs.stopping.break_off.Goals as goal
 
-done : {A : Type 0} (B : Type 0) (r : Result A WorldBad) (x : A) → r ≡ Ok x → B → IfOk r (λ _. B)
-done B r x e b = subst (λ y. IfOk y (λ _. B)) (sym e) b
+pub returns-in_default-clause-breaks : goal.returns-in_default-clause-breaks
+returns-in_default-clause-breaks g c = λ alone rs pad message e a.
+    if-ok c.reopen.result
+    (Reopens g.D.Disk.told g.D.Device.failures g.D.Disk.stops_alone alone a.state c.reopen.new.machine)
+    (BreaksOff g.D.Disk.told g.D.Device.failures g.D.Disk.stops_alone alone rs pad c.args.now message c.args.calls c.args.image c.reopen.new.machine)
+    (breaks-none g.D.Disk.told g.D.Device.failures g.D.Disk.stops_alone alone c.args.machine.now c.reopen.new.machine rs pad c.args.now message c.args.first c.args.calls c.args.image e c.in_default.is a)
+    (c.reopen.ensures.reopens alone a.state a.kept a.stands a.mark)
 
-wanting : {A : Type 0} (B : Type 0) (r : Result A WorldBad) → r ≡ Err NoMemory → IfOk r (λ _. B)
-wanting B r e = subst (λ y. IfOk y (λ _. B)) (sym e) tt
+pub returns-in_default-change-clause-breaks : goal.returns-in_default-change-clause-breaks
+returns-in_default-change-clause-breaks g c = λ alone rs pad message e a.
+    let r = c.reopen-in_default-change in
+    if-ok r.result
+    (Reopens g.D.Disk.told g.D.Device.failures g.D.Disk.stops_alone alone a.state r.new.machine)
+    (BreaksOff g.D.Disk.told g.D.Device.failures g.D.Disk.stops_alone alone rs pad c.args.now message c.args.calls c.args.image r.new.machine)
+    (breaks-unread g.D.Disk.told g.D.Device.failures g.D.Disk.stops_alone alone c.args.machine.now r.new.machine rs pad c.args.now message c.args.first c.in-Some.session c.in-Some.sent
+    c.in_default-change.field-0 c.args.calls c.args.image e c.in-Some.is c.in_default-change.is a)
+    (r.ensures.reopens alone a.state a.kept a.stands a.mark)
 
-pub returns-clause-breaks : goal.returns-clause-breaks
-returns-clause-breaks g c = λ pad message e a.
-    let off = BreaksOff g.D.Disk.told g.D.Device.failures pad c.args.now message c.accept.new.self in
-    let b = breaks-first g.D.Disk.told g.D.Device.failures c.args.machine.now c.accept.new.self pad c.args.now message c.args.first c.in-Some.session c.in-Some.sent c.in-Ok.change
-    (replied (λ x. CommitAnswer (told_by x)) c.accept.result) e c.in-Some.is c.in-Ok.is c.ops-normal.ensures.normal a (λ st k x. let y = c.accept.ensures st k x in (y.0, y.1, y.2)) in
-    elim c.match-accept.branch [
-      | in-Err-NoMemory w ↦ wanting off c.match-accept.result w.result-is
-      | in_default-accept w ↦ done off c.match-accept.result _ w.result-is b
-      | in_default-accept-2 w ↦ done off c.match-accept.result _ w.result-is b
-    ]
-
-unfailed : {A : Type 0} (r : Result A WorldBad) (x : A) → r ≡ Ok x → IfErr r IsFailure
-unfailed r x e = subst (λ y. IfErr y IsFailure) (sym e) tt
-
-lacking : {A : Type 0} (r : Result A WorldBad) → r ≡ Err NoMemory → IfErr r IsFailure
-lacking r e = subst (λ y. IfErr y IsFailure) (sym e) tt
-
-pub returns-clause-failed : goal.returns-clause-failed
-returns-clause-failed g c = elim c.match-accept.branch [
-  | in-Err-NoMemory w ↦ lacking c.match-accept.result w.result-is
-  | in_default-accept w ↦ unfailed c.match-accept.result _ w.result-is
-  | in_default-accept-2 w ↦ unfailed c.match-accept.result _ w.result-is
-]
+pub returns-in-Ok-accept_stopped-clause-breaks : goal.returns-in-Ok-accept_stopped-clause-breaks
+returns-in-Ok-accept_stopped-clause-breaks g c = λ alone rs pad message e a.
+    let t = c.in-Ok-accept_stopped in
+    let new = c.accept_stopped.new.self in
+    if-ok c.unheard.result (t.taken ≡ Err bad.NoMemory → ⊥)
+    (BreaksOff g.D.Disk.told g.D.Device.failures g.D.Disk.stops_alone alone rs pad c.args.now message c.args.calls c.args.image new)
+    (λ heard.
+    breaks-first g.D.Disk.told g.D.Device.failures g.D.Disk.stops_alone alone c.args.machine.now new rs pad c.args.now message c.args.first c.in-Some.session c.in-Some.sent c.in-Ok.change
+    (replied (λ x. CommitAnswer (told_by x)) t.taken) c.args.calls c.args.image e c.in-Some.is c.in-Ok.is c.ops-normal.ensures.normal a (c.accept_stopped.ensures.alone a.state a.kept a.stands)
+    (not-lacking (λ x. CommitAnswer (told_by x)) t.taken heard) (t.ensures.steps a.state a.kept a.stands) (λ m. t.ensures.stops a.state a.kept a.stands m))
+    c.unheard.ensures.heard

@@ -5,14 +5,14 @@ use Rattle.ep_world.proofs.Pushes.{tells-dead, tells-fetched}
 use Rattle.ep_world.proofs.telling.tell.Goals as goal
 
 pub returns-in_ok-tell_next-in-Ok-clause-told : goal.returns-in_ok-tell_next-in-Ok-clause-told
-returns-in_ok-tell_next-in-Ok-clause-told g c = λ pad a.
+returns-in_ok-tell_next-in-Ok-clause-told g c = λ alone rs pad a.
     let p = c.in_ok-tell_next-in-Ok in
-    tells-fetched g.D.Disk.told g.D.Device.failures c.args.machine.now c.fetch.new.self pad c.args.conn.now (held_conn c.conn.inside) c.tell_next.new.conn c.fetch.result c.in-Ok.fetched p.field-0
-    c.conn.view_is a (λ st k x. let y = c.fetch.ensures st k x in (y.0, y.1, y.2)) c.in-Ok.is p.ensures.pushed p.ensures.told
+    tells-fetched g.D.Disk.told g.D.Device.failures g.D.Disk.stops_alone alone rs c.args.machine.now c.fetch_first.new.self pad c.args.conn.now (held_conn c.conn.inside) c.tell_next.new.conn c.fetch_first.result c.in-Ok.fetched p.field-0
+    c.conn.view_is a (λ st k x. let y = c.fetch_first.ensures st k x in (y.0, y.1, y.2, y.4.alone)) c.in-Ok.is p.ensures.pushed p.ensures.told
 
 pub returns-in_ok-tell_end-in-Err-Dead-clause-told : goal.returns-in_ok-tell_end-in-Err-Dead-clause-told
-returns-in_ok-tell_end-in-Err-Dead-clause-told g c = λ pad a.
+returns-in_ok-tell_end-in-Err-Dead-clause-told g c = λ alone rs pad a.
     let p = c.in_ok-tell_end-in-Err-Dead in
-    let dead : c.fetch.result ≡ Err (bad.Dead c.in-Err-Dead.why) = cc (c.in-Err-Dead.is, c.in-Err-Dead.field-0-is, c.in-Err-Dead.why-is) in
-    tells-dead g.D.Disk.told g.D.Device.failures c.args.machine.now c.fetch.new.self pad c.args.conn.now (held_conn c.conn.inside) c.tell_end.new.conn c.fetch.result c.in-Err-Dead.why p.field-0
-    c.conn.view_is a (λ st k x. let y = c.fetch.ensures st k x in (y.0, y.1, y.2)) dead p.ensures.pushed p.ensures.told
+    let dead : c.fetch_first.result ≡ Err (bad.Dead c.in-Err-Dead.why) = cc (c.in-Err-Dead.is, c.in-Err-Dead.field-0-is, c.in-Err-Dead.why-is) in
+    tells-dead g.D.Disk.told g.D.Device.failures g.D.Disk.stops_alone alone rs c.args.machine.now c.fetch_first.new.self pad c.args.conn.now (held_conn c.conn.inside) c.tell_end.new.conn c.fetch_first.result c.in-Err-Dead.why p.field-0
+    c.conn.view_is a (λ st k x. let y = c.fetch_first.ensures st k x in (y.0, y.1, y.2, y.4.alone)) dead p.ensures.pushed p.ensures.told

@@ -48,3 +48,35 @@ returns-clause-stops g c st k s alone =
     let finds = subst (λ (n : ℕ). MayFind c.stop_after-2.new.self.limits n f.0 x.0) (sym c.stop_after-2.ensures.failures) within in
     let z = f.2 x.0 finds in
     (w.0, x.0, z.0, w.1, x.1, z.1, z.2)
+
+pub returns-clause-steps : goal.returns-clause-steps
+returns-clause-steps g c st k s =
+    let w = c.in_ok-wake.ensures.wakes st k s in
+    let was = c.stop_after.ensures.stands w.0 w.2.0 in
+    let may = subst (λ t. MayHold t w.0.records w.0.pending) (sym c.stop_after.ensures.told) (c.in_ok-wake.ensures.settled w.0 w.2.0) in
+    let kept = woken-state st w.0 k w.1 (opened g.D.Disk.told g.D.Device.failures st w.0 _ w.1 w.2.0).settled in
+    let t = c.take-taken.ensures.steps c.stop_after.new.self w.0 w.0 (Was (woken-open st w.0 w.1) refl)
+    (comes-nowhere g.D.Disk.told g.D.Device.failures g.D.Disk.moment g.D.Disk.since g.D.Device.is_steady g.D.Disk.stops_alone g.D.Disk.left c.stop_after.new.self w.0 was may (λ image now. g.met.D.Disk.only_now _ image now)) in
+    let r = c.in_ok-restart.ensures.restarts t.0 (step-kept size w.0 _ _ t.0 kept t.1) (c.stop_after-2.ensures.stands t.0 t.2.0) in
+    (w.0, t.0, r.0, w.1, t.1, r.1, r.2)
+
+pub returns-in_err-wake-clause-alone : goal.returns-in_err-wake-clause-alone
+returns-in_err-wake-clause-alone g c st k s = let w = c.in_err-wake.ensures.wakes st k s in w.2.2.alone
+
+pub returns-in_err-restart-clause-alone : goal.returns-in_err-restart-clause-alone
+returns-in_err-restart-clause-alone g c st k s =
+    let w = c.in_ok-wake.ensures.wakes st k s in
+    let was = c.stop_after.ensures.stands w.0 w.2.0 in
+    let may = subst (λ t. MayHold t w.0.records w.0.pending) (sym c.stop_after.ensures.told) (c.in_ok-wake.ensures.settled w.0 w.2.0) in
+    let t = c.take-taken.ensures.steps c.stop_after.new.self w.0 w.0 (Was (woken-open st w.0 w.1) refl)
+    (comes-nowhere g.D.Disk.told g.D.Device.failures g.D.Disk.moment g.D.Disk.since g.D.Device.is_steady g.D.Disk.stops_alone g.D.Disk.left c.stop_after.new.self w.0 was may (λ image now. g.met.D.Disk.only_now _ image now)) in
+    c.in_err-restart.ensures.alone ∙ c.stop_after-2.ensures.alone ∙ t.2.2.alone ∙ c.stop_after.ensures.alone ∙ w.2.2.alone
+
+pub returns-clause-alone : goal.returns-clause-alone
+returns-clause-alone g c st k s =
+    let w = c.in_ok-wake.ensures.wakes st k s in
+    let was = c.stop_after.ensures.stands w.0 w.2.0 in
+    let may = subst (λ t. MayHold t w.0.records w.0.pending) (sym c.stop_after.ensures.told) (c.in_ok-wake.ensures.settled w.0 w.2.0) in
+    let t = c.take-taken.ensures.steps c.stop_after.new.self w.0 w.0 (Was (woken-open st w.0 w.1) refl)
+    (comes-nowhere g.D.Disk.told g.D.Device.failures g.D.Disk.moment g.D.Disk.since g.D.Device.is_steady g.D.Disk.stops_alone g.D.Disk.left c.stop_after.new.self w.0 was may (λ image now. g.met.D.Disk.only_now _ image now)) in
+    c.in_ok-restart.ensures.alone ∙ c.stop_after-2.ensures.alone ∙ t.2.2.alone ∙ c.stop_after.ensures.alone ∙ w.2.2.alone

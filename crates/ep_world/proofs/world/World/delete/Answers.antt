@@ -8,14 +8,14 @@ use Rattle.ep_world.proofs.Calls.{answered}
 use Rattle.ep_world.proofs.world.World.delete.Goals as goal
 
 pub returns-in-Ok : goal.returns-in-Ok
-returns-in-Ok g c = λ w ks run s.
-    let a = answered g.D.Disk.told g.D.Device.failures c.args.self.now.machine c.delete.new.self w.pad (Delete c.args.now) (replied (λ _. Done) c.delete.result) s.machine (λ st k x. let y = c.delete.ensures st k x in (y.0, y.1, y.2)) in
-    deleted g.D.Disk.told g.D.Device.failures c.args.self.now _ w ks c.args.now Done s
-    (subst (λ r. IsAnswered g.D.Disk.told g.D.Device.failures c.args.self.now.machine w.pad (Delete c.args.now) (replied (λ _. Done) r) c.delete.new.self) c.in-Ok.is a) refl refl
+returns-in-Ok g c = λ alone rs w ks run s.
+    let a = answered g.D.Disk.told g.D.Device.failures g.D.Disk.stops_alone alone rs c.args.self.now.machine c.delete.new.self w.pad (Delete c.args.now) (replied (λ _. Done) c.delete.result) s.machine (λ st k x. let y = c.delete.ensures st k x in (y.0, y.1, y.2, y.4.alone)) in
+    deleted g.D.Disk.told g.D.Device.failures g.D.Disk.stops_alone alone rs c.args.self.now _ w ks c.args.now Done s
+    (subst (λ r. IsAnswered g.D.Disk.told g.D.Device.failures g.D.Disk.stops_alone alone rs c.args.self.now.machine w.pad (Delete c.args.now) (replied (λ _. Done) r) c.delete.new.self) c.in-Ok.is a) refl refl
 
 pub returns-in-Err : goal.returns-in-Err
-returns-in-Err g c = λ w ks run s.
-    let a = answered g.D.Disk.told g.D.Device.failures c.args.self.now.machine c.delete.new.self w.pad (Delete c.args.now) (replied (λ _. Done) c.delete.result) s.machine (λ st k x. let y = c.delete.ensures st k x in (y.0, y.1, y.2)) in
+returns-in-Err g c = λ alone rs w ks run s.
+    let a = answered g.D.Disk.told g.D.Device.failures g.D.Disk.stops_alone alone rs c.args.self.now.machine c.delete.new.self w.pad (Delete c.args.now) (replied (λ _. Done) c.delete.result) s.machine (λ st k x. let y = c.delete.ensures st k x in (y.0, y.1, y.2, y.4.alone)) in
     rw c.refused.ensures
-    (delete-refused g.D.Disk.told g.D.Device.failures c.args.self.now _ w ks c.args.now c.in-Err.bad s
-    (subst (λ r. IsAnswered g.D.Disk.told g.D.Device.failures c.args.self.now.machine w.pad (Delete c.args.now) (replied (λ _. Done) r) c.delete.new.self) c.in-Err.is a) refl refl)
+    (delete-refused g.D.Disk.told g.D.Device.failures g.D.Disk.stops_alone alone rs c.args.self.now _ w ks c.args.now c.in-Err.bad s
+    (subst (λ r. IsAnswered g.D.Disk.told g.D.Device.failures g.D.Disk.stops_alone alone rs c.args.self.now.machine w.pad (Delete c.args.now) (replied (λ _. Done) r) c.delete.new.self) c.in-Err.is a) refl refl)

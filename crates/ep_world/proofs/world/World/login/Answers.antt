@@ -12,23 +12,23 @@ use Rattle.ep_world.proofs.Entered.{guest-known, logged-in, login-refused}
 use Rattle.ep_world.proofs.world.World.login.Goals as goal
 
 pub returns-in-Ok : goal.returns-in-Ok
-returns-in-Ok g c = λ w ks run s.
+returns-in-Ok g c = λ alone rs w ks run s.
     let old = c.args.self.now in
     let new : World g.row.D.Denot = record { alloc = old.alloc; id = old.id; machine = c.login.new.self; actors = c.start.new.actors } in
     let i = sym (guest-known (w.actors c.args.name) (ks c.args.name)) ∙ ap is_a_guest (sym (s.actors c.args.name)) ∙ sym c.is_guest.ensures ∙ c.if-is_guest.false in
-    let a = answered g.D.Disk.told g.D.Device.failures old.machine new.machine w.pad (Login c.in_ok-grant.grant c.args.now) (replied (λ x. LoginAnswer (welcome_of x)) c.login.result) s.machine (λ st k x. let y = c.login.ensures st k x in (y.0, y.1, y.2)) in
-    let b = subst (λ y. IsAnswered g.D.Disk.told g.D.Device.failures old.machine w.pad (Login y c.args.now) (replied (λ x. LoginAnswer (welcome_of x)) c.login.result) new.machine) (c.in_ok-grant.ensures w s.id) a in
+    let a = answered g.D.Disk.told g.D.Device.failures g.D.Disk.stops_alone alone rs old.machine new.machine w.pad (Login c.in_ok-grant.grant c.args.now) (replied (λ x. LoginAnswer (welcome_of x)) c.login.result) s.machine (λ st k x. let y = c.login.ensures st k x in (y.0, y.1, y.2, y.4.alone)) in
+    let b = subst (λ y. IsAnswered g.D.Disk.told g.D.Device.failures g.D.Disk.stops_alone alone rs old.machine w.pad (Login y c.args.now) (replied (λ x. LoginAnswer (welcome_of x)) c.login.result) new.machine) (c.in_ok-grant.ensures w s.id) a in
     rw c.in_ok-start-in-Ok.ensures.shown
-    ((logged-in g.D.Disk.told g.D.Device.failures old new w ks c.args.now c.args.name c.in-Ok.welcome i s
-    (subst (λ r. IsAnswered g.D.Disk.told g.D.Device.failures old.machine w.pad (Login (grant_of w c.args.name false) c.args.now) (replied (λ x. LoginAnswer (welcome_of x)) r) new.machine) c.in-Ok.is b) refl c.in_ok-start-in-Ok.ensures.put))
+    ((logged-in g.D.Disk.told g.D.Device.failures g.D.Disk.stops_alone alone rs old new w ks c.args.now c.args.name c.in-Ok.welcome i s
+    (subst (λ r. IsAnswered g.D.Disk.told g.D.Device.failures g.D.Disk.stops_alone alone rs old.machine w.pad (Login (grant_of w c.args.name false) c.args.now) (replied (λ x. LoginAnswer (welcome_of x)) r) new.machine) c.in-Ok.is b) refl c.in_ok-start-in-Ok.ensures.put))
 
 pub returns : goal.returns
-returns g c = λ w ks run s.
+returns g c = λ alone rs w ks run s.
     let old = c.args.self.now in
     let new : World g.row.D.Denot = record { alloc = old.alloc; id = old.id; machine = c.login.new.self; actors = old.actors } in
     let i = sym (guest-known (w.actors c.args.name) (ks c.args.name)) ∙ ap is_a_guest (sym (s.actors c.args.name)) ∙ sym c.is_guest.ensures ∙ c.if-is_guest.false in
-    let a = answered g.D.Disk.told g.D.Device.failures old.machine new.machine w.pad (Login c.in_ok-grant.grant c.args.now) (replied (λ x. LoginAnswer (welcome_of x)) c.login.result) s.machine (λ st k x. let y = c.login.ensures st k x in (y.0, y.1, y.2)) in
-    let b = subst (λ y. IsAnswered g.D.Disk.told g.D.Device.failures old.machine w.pad (Login y c.args.now) (replied (λ x. LoginAnswer (welcome_of x)) c.login.result) new.machine) (c.in_ok-grant.ensures w s.id) a in
+    let a = answered g.D.Disk.told g.D.Device.failures g.D.Disk.stops_alone alone rs old.machine new.machine w.pad (Login c.in_ok-grant.grant c.args.now) (replied (λ x. LoginAnswer (welcome_of x)) c.login.result) s.machine (λ st k x. let y = c.login.ensures st k x in (y.0, y.1, y.2, y.4.alone)) in
+    let b = subst (λ y. IsAnswered g.D.Disk.told g.D.Device.failures g.D.Disk.stops_alone alone rs old.machine w.pad (Login y c.args.now) (replied (λ x. LoginAnswer (welcome_of x)) c.login.result) new.machine) (c.in_ok-grant.ensures w s.id) a in
     rw c.refused.ensures
-    ((login-refused g.D.Disk.told g.D.Device.failures old new w ks c.args.now c.args.name c.in-Err.bad i s
-    (subst (λ r. IsAnswered g.D.Disk.told g.D.Device.failures old.machine w.pad (Login (grant_of w c.args.name false) c.args.now) (replied (λ x. LoginAnswer (welcome_of x)) r) new.machine) c.in-Err.is b) refl refl))
+    ((login-refused g.D.Disk.told g.D.Device.failures g.D.Disk.stops_alone alone rs old new w ks c.args.now c.args.name c.in-Err.bad i s
+    (subst (λ r. IsAnswered g.D.Disk.told g.D.Device.failures g.D.Disk.stops_alone alone rs old.machine w.pad (Login (grant_of w c.args.name false) c.args.now) (replied (λ x. LoginAnswer (welcome_of x)) r) new.machine) c.in-Err.is b) refl refl))

@@ -4,10 +4,10 @@ use Rattle.ep_world.proofs.Hears.{loses}
 use Rattle.ep_world.proofs.world.World.lose.Goals as goal
 
 pub returns : goal.returns
-returns g c = λ now w ks r s.
+returns g c = λ now alone rs w ks r s.
     let m = c.in_ok-member in
     let old = c.args.self.now in
     let new : World g.row.D.Denot = record { alloc = old.alloc; id = old.id; machine = old.machine; actors = c.seat.new.self } in
-    loses g.D.Disk.told g.D.Device.failures old new w ks c.args.name now m.member c.lose.new.self c.is_connected-was.result c.show_lost.result r s refl refl
+    loses g.D.Disk.told g.D.Device.failures g.D.Disk.stops_alone alone rs old new w ks c.args.name now m.member c.lose.new.self c.is_connected-was.result c.show_lost.result r s refl refl
     (record { between = c.member.new.self; taken = m.ensures.taken.0; without = m.ensures.taken.1; seated = c.in_ok-seat.ensures })
     c.is_connected-was.ensures c.lose.ensures c.show_lost.ensures

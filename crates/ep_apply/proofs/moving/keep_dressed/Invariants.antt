@@ -1,8 +1,0 @@
-use Rattle.ep_apply.proofs.Pieces.{AreDressed}
-use Rattle.ep_apply.proofs.moving.keep_dressed.Given as goal
-
-abbrev pub invariant-pieces : goal.invariant-pieces
-invariant-pieces l = AreDressed l.attrs l.units l.left l.initial.out l.initial.rest l.out l.rest
-
-abbrev pub decreases-pieces : goal.decreases-pieces
-decreases-pieces l = l.left

@@ -1,5 +1,0 @@
-use Rattle.ep_attr.proofs.Maps.{same_values}
-use Rattle.ep_attr.proofs.laws.told_by_values.Goals as goal
-
-pub returns : goal.returns
-returns c = same_values

@@ -1,0 +1,11 @@
+use Rattle.std.proofs.Common.{◌∙◌, sym, ap}
+use Rattle.ep_cs.specs.Change.{Change}
+use Rattle.ep_cs.specs.Kept.{kept_change}
+use Rattle.ep_cs.specs.Spelling.{old_len}
+use Rattle.ep_cs.proofs.Packings.{nothing_old}
+use Rattle.ep_cs.proofs.change.Change.old_len.Goals as goal
+
+pub returns-in-Nothing : goal.returns-in-Nothing
+returns-in-Nothing c =
+    let is = sym (ap kept_change c.in-Nothing.is) ∙ c.self.view_is in
+    nothing_old c.in-Nothing.units c.in-Nothing.bank ∙ ap (λ (x : Change). old_len x.edit) is
