@@ -7,7 +7,7 @@ use crate::refusal::Stop;
 use crate::reply::{change_reply, doc_reply, fits_reply, slides_reply};
 use ep_apply::{Doc, fits};
 use ep_attr::{Attr, AttrMap};
-use ep_cs::{Change, First};
+use ep_cs::{Change, First, MOST_UNITS};
 use ep_csread::{read, read_attribs};
 use ep_invert::{invert, paint, splice};
 use ep_pool::Pool;
@@ -107,7 +107,7 @@ fn splicing(
     pairs: &[Attr],
 ) -> Result<Change, Stop> {
     let text = Units::from_str(alloc, insert)?;
-    if text.len() > (u32::MAX - doc.len()) as usize {
+    if text.len() > (MOST_UNITS - doc.len()) as usize {
         return Err(Stop::from(Member::Insert));
     }
     let attrs = AttrMap::read(alloc, pairs)?;

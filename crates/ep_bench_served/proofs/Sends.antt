@@ -3,7 +3,7 @@ use denote.Param.Send.{sendable, IsSend}
 use denote.Param.SendFields.{declared_send, as_row_send}
 use Rattle.std.proofs.Crossing.{crosses}
 use Rattle.ep_pad.proofs.machine.PadMachine.TheSendSync as machine
-use Rattle.ep_bench_served.proofs.Crossing.{house_send, house_sync}
+use Rattle.ep_pad_port.proofs.Crossing.{house_send, house_sync}
 use Rattle.ep_bench_served.proofs.job.Sitting.TheSendSync as sitting
 use Rattle.ep_bench_served.specs.contracts.job.ServedJob as served_job
 

@@ -24,6 +24,6 @@ pub use laws::{
     known_by_items, pairs_are_kept, plain_is_its_text, refused_where_it_does_not_fit,
     splice_replaces, texts_stay_well_formed,
 };
-pub use lines::{count_lines, last_line};
+pub use lines::{MOST_UNITS, count_lines, last_line};
 pub use new_map::without_empty;
 pub use op::{Kind, Op};

@@ -3,6 +3,9 @@
 ghost use Rattle.std.specs.Prelude.{◌≡◌, ◌≤◌, true, length, take, drop};
 ghost use Rattle.ep_cs.specs.Lines.{count_lines, is_whole_lines};
 
+/// A text has at most so many UTF-16 units.
+pub const MOST_UNITS: u32 = u32::MAX;
+
 /// How many newlines there are.
 pub fn count_lines(text: &[u16]) -> usize
     ensures count { result ≡ count_lines text.now }

@@ -8,7 +8,7 @@ ghost use Rattle.ep_follow.specs.Follows.{is_a, Follows};
 ghost use Rattle.ep_follow.specs.Following.{IsFollower};
 
 use crate::step::walk;
-use ep_cs::{Builder, Change, First};
+use ep_cs::{Builder, Change, First, MOST_UNITS};
 use ep_cursor::Cursor;
 use ep_units::NoMemory;
 use std::alloc::Global;
@@ -18,7 +18,7 @@ fn written(alloc: Global, a: &Change, b: &Change, first: First) -> Result<Builde
     requires { (doc : Doc) × Fits a.now doc × Fits b.now doc }
     ensures { IfOk result (λ out. (doc : Doc) → Fits a.now doc → Fits b.now doc → IsFollower (is_a first) a.now b.now doc out) }
 {
-    let room = u32::MAX - a.new_len();
+    let room = MOST_UNITS - a.new_len();
     if b.bank().len() > room as usize {
         return Err(NoMemory);
     }

@@ -55,6 +55,9 @@ module _ (H P D B E R : RattleType) (s : shelf.Ghosts H.Denot D.Denot) (t : devi
   pub pads_sync : IsSync (pads.the_row H P D B E R s t d e p m)
   pads_sync = declared_sync (pads.the_type H P D B E R s t d e p m) (search (sendable, crosses) depth 20, (search (sendable, crosses) depth 20, (cell_sync (registry.the_row H P D B E R s t d e p m) name.the_row answer_row (registry_machine.ghosts H P D B E R s registry_machine.no_dict t registry_machine.no_dict d registry_machine.no_dict e registry_machine.no_dict p registry_machine.no_dict m registry_machine.no_dict registry_machine.no_dict registry_machine.no_dict registry_machine.no_dict registry_machine.no_dict registry_machine.no_dict) registry_send, tt)))
 
+  pub pads_send : IsSend (pads.the_row H P D B E R s t d e p m)
+  pads_send = declared_send (pads.the_type H P D B E R s t d e p m) (search (sendable, crosses) depth 20, (search (sendable, crosses) depth 20, (cell_send (registry.the_row H P D B E R s t d e p m) name.the_row answer_row (registry_machine.ghosts H P D B E R s registry_machine.no_dict t registry_machine.no_dict d registry_machine.no_dict e registry_machine.no_dict p registry_machine.no_dict m registry_machine.no_dict registry_machine.no_dict registry_machine.no_dict registry_machine.no_dict registry_machine.no_dict registry_machine.no_dict) registry_send, tt)))
+
   pub pad_pass_send : IsSend (pad_pass.the_row H P D B E R s t d e p m)
   pad_pass_send =
       let inner : IsSend (pass.the_row P E R) = pass_send P E R p-send in
@@ -67,3 +70,6 @@ module _ (K : RattleType) (k : keeper.Ghosts K.Denot) (d : device.Ghosts K.Denot
 
   pub directory_sync : IsSync (directory.the_row K k d)
   directory_sync = declared_sync (directory.the_type K k d) (search (sendable, crosses) depth 20, (cell_sync (dir_machine.the_row K k d) entry.the_row reply.the_row (dir_machine_machine.ghosts K k dir_machine_machine.no_dict d dir_machine_machine.no_dict dir_machine_machine.no_dict) machine_send, tt))
+
+  pub directory_send : IsSend (directory.the_row K k d)
+  directory_send = declared_send (directory.the_type K k d) (search (sendable, crosses) depth 20, (cell_send (dir_machine.the_row K k d) entry.the_row reply.the_row (dir_machine_machine.ghosts K k dir_machine_machine.no_dict d dir_machine_machine.no_dict dir_machine_machine.no_dict) machine_send, tt))

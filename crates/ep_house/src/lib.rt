@@ -11,11 +11,7 @@
 
 mod copying;
 mod dir_calls;
-#[cfg(test)]
-mod dir_tests;
 mod directory;
-#[cfg(test)]
-mod held;
 mod named;
 mod pad_machine;
 mod pad_over;
@@ -23,10 +19,6 @@ mod pads;
 mod passing;
 mod registry;
 mod replies;
-#[cfg(test)]
-mod tests;
-#[cfg(test)]
-mod toy;
 
 pub use directory::{DirPass, Directory};
 pub use ep_pad::PassBad;

@@ -9,6 +9,3 @@ mod far_keeper;
 
 pub use desk::Desk;
 pub use far_keeper::FarKeeper;
-
-#[cfg(test)]
-mod tests;

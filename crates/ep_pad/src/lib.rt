@@ -21,6 +21,3 @@ pub use ep_pad_state::{CatchUp, Committed, Fetched, PadStatus, Piece, Welcome};
 pub use machine::PadMachine;
 pub use pad_port::PadPort;
 pub use pass_bad::PassBad;
-
-#[cfg(test)]
-mod tests;

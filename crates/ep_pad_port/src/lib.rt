@@ -9,13 +9,9 @@
 mod asking;
 mod copying;
 mod dir_port;
-#[cfg(test)]
-mod dir_tests;
 mod house;
 mod pad_calls;
 mod pad_port;
-#[cfg(test)]
-mod tests;
 
 pub use house::{House, HouseOf};
 pub use pad_calls::PadCalls;

@@ -20,6 +20,3 @@ pub use laws::{
     sends_when_committed,
 };
 pub use writer::{Written, write_session};
-
-#[cfg(test)]
-mod tests;

@@ -12,6 +12,3 @@ mod work;
 pub use asked::{Unanswered, answer_caller};
 pub use server::Server;
 pub use work::{Asking, Sitting, Work};
-
-#[cfg(test)]
-mod tests;

@@ -10,7 +10,7 @@ ghost use Rattle.ep_step.specs.Step.{made_of, newline_of, step_of};
 
 use crate::newline::{lacks_newline, newline_change};
 use ep_apply::{Doc, apply};
-use ep_cs::Change;
+use ep_cs::{Change, MOST_UNITS};
 use ep_history::PadBad;
 use ep_units::NoMemory;
 use std::alloc::Global;
@@ -69,7 +69,7 @@ fn newline_if(alloc: Global, doc: &Doc, lacks: bool) -> Result<Option<Made>, NoM
     if !lacks {
         return Ok(None);
     }
-    if doc.len() == u32::MAX {
+    if doc.len() == MOST_UNITS {
         return Err(NoMemory);
     }
     let change = newline_change(alloc, doc)?;

@@ -21,7 +21,7 @@ use crate::splicing::plain_splice;
 use crate::step::Step;
 use crate::taking::Head;
 use ep_apply::Doc;
-use ep_cs::Change;
+use ep_cs::{Change, MOST_UNITS};
 use ep_history::PadBad;
 use ep_units::{NoMemory, Units, ends_in_newline};
 use std::alloc::Global;
@@ -73,7 +73,7 @@ fn fits_limit(text: &Units, more: u32, limit: u64) -> Result<(), PadBad>
     if units > limit {
         return Err(PadBad::TooLong(units));
     }
-    if units > u64::from(u32::MAX) {
+    if units > u64::from(MOST_UNITS) {
         return Err(PadBad::NoMemory);
     }
     Ok(())

@@ -22,7 +22,7 @@ use crate::world::World;
 use ep_apply::Doc;
 use ep_attr::{Attr, AttrMap};
 use ep_client::Client;
-use ep_cs::Change;
+use ep_cs::{Change, MOST_UNITS};
 use ep_csread::ReadBad;
 use ep_event::{Local, Reason, Shown, Verb};
 use ep_invert::{SpliceBad, paint, splice};
@@ -179,7 +179,7 @@ fn insertion(alloc: Global, doc: &Doc, at: u32, text: &Units) -> Result<Change, 
 {
     let length = (doc.len() as u64).checked_add(text.len() as u64);
     match length {
-        Some(length) if length <= u64::from(u32::MAX) => {
+        Some(length) if length <= u64::from(MOST_UNITS) => {
             splice(alloc, doc, at, 0, text, &AttrMap::none(alloc))
         }
         _ => Err(SpliceBad::NoMemory),

@@ -11,6 +11,3 @@ mod wrote;
 
 pub use writing::write_to;
 pub use wrote::Wrote;
-
-#[cfg(test)]
-mod tests;

@@ -7,7 +7,7 @@ use denote.Struct.Field.{row_field}
 use Rattle.std.specs.declared.sync.Wait as wait
 use Rattle.std.proofs.Crossing.{crosses}
 use Rattle.ep_pad.proofs.machine.PadMachine.TheSendSync as machine
-use Rattle.ep_serve.proofs.Crossing.{house_send, house_sync}
+use Rattle.ep_pad_port.proofs.Crossing.{house_send, house_sync}
 use Rattle.ep_serve.proofs.work.Work.TheSendSync as work
 use Rattle.ep_serve.specs.contracts.work.Work as served
 use Rattle.padd.specs.contracts.real.RealJob as real_job

@@ -1,9 +1,9 @@
 //! A pad over a disk in memory.
 
-use super::*;
 use ep_disk_mem::MemDisk;
 use ep_history::Why;
 use ep_outside::{Image, Limits};
+use ep_pad::{Committed, PadBad, PadMachine};
 use ep_step::newline_change;
 use ep_units::{Grant, NoMemory, PadId, Session, Units};
 use std::alloc::Global;

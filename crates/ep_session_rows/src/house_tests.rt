@@ -3,7 +3,6 @@
 ghost use Rattle.std.specs.Prelude.{[], IfOk};
 ghost use Rattle.ep_cell.specs.Passes.{IsOf};
 
-use crate::House;
 use ep_apply::Doc;
 use ep_cell::{Cell, Pass};
 use ep_disk_mem::{MemDisk, MemFile, MemShelf};
@@ -11,6 +10,7 @@ use ep_groups::{DirBad, DirPort, Drawn};
 use ep_keep::MapKeeper;
 use ep_outside::{Disk, Limits, Machine};
 use ep_pad::{PadBad, PadEntry, PadMachine, PadPort, PadReply, PassBad};
+use ep_pad_port::House;
 use ep_step::newline_change;
 use ep_units::{Grant, NoMemory, PadId, Units};
 use std::alloc::Global;

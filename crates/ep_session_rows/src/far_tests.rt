@@ -1,7 +1,7 @@
 //! A map that another thread has.
 
-use crate::FarKeeper;
 use ep_keep::MapKeeper;
+use ep_keep_far::FarKeeper;
 use ep_outside::{Device, KeepBad, Keeper, Put, Text};
 use std::alloc::Global;
 use std::sync::Wait;

@@ -3,18 +3,21 @@
 ghost use Rattle.std.specs.Prelude.{◌≡◌};
 ghost use Rattle.ep_house.specs.Pads.{IsHallOf};
 
-use crate::held::{Gate, HeldDisk, HeldShelf, waits};
-use crate::toy::{Toy, ToyBad, ToyEntry};
-use crate::{Hall, PadPass, Pads};
+mod held;
+mod toy;
+
 use ep_disk_mem::{MemDisk, MemFile, MemShelf};
+use ep_house::{Hall, PadPass, Pads};
 use ep_outside::{Failed, Limits};
 use ep_pad::{PadBad, PadEntry, PadMachine, PadReply, PassBad};
 use ep_units::{PadId, Units};
+use held::{Gate, HeldDisk, HeldShelf, waits};
 use std::alloc::Global;
 use std::sync::atomic::Ordering;
 use std::sync::{Arc, Wait};
 use std::test::Fail;
 use std::thread::join;
+use toy::{Toy, ToyBad, ToyEntry};
 
 type MemPads = Pads<MemShelf, Toy<MemDisk>>;
 

@@ -1,8 +1,8 @@
-//! A toy in the place of a pad, for tests: a counter over a disk.
+//! A toy in the place of a pad: a counter over a disk.
 
 ghost use Rattle.std.specs.Prelude.{◌≡◌};
 
-use crate::PadOver;
+use ep_house::PadOver;
 use ep_outside::{Disk, Limits, Machine, Refused};
 use std::alloc::Global;
 

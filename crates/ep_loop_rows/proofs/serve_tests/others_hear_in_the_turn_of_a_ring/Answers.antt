@@ -3,10 +3,10 @@ use denote.Param.SendFields.{declared_send, as_row_send}
 use Rattle.std.proofs.Crossing.{crosses}
 use Rattle.ep_doors.proofs.thread_spawner.ThreadSpawner.TheSendSync as spawner
 use Rattle.ep_pad.proofs.machine.PadMachine.TheSendSync as machine
-use Rattle.ep_serve.proofs.Crossing.{house_send, house_sync}
+use Rattle.ep_pad_port.proofs.Crossing.{house_send, house_sync}
 use Rattle.ep_serve.proofs.work.Work.TheSendSync as work
-use Rattle.ep_serve.specs.contracts.tests.MemJob as mem_job
-use Rattle.ep_serve.proofs.tests.others_hear_in_the_turn_of_a_ring.Goals as goal
+use Rattle.ep_loop_rows.specs.contracts.serve_tests.MemJob as mem_job
+use Rattle.ep_loop_rows.proofs.serve_tests.others_hear_in_the_turn_of_a_ring.Goals as goal
 
 job_send : IsSend mem_job.the_row
 job_send = declared_send mem_job.the_type (search (work.the_field_send, as_row_send, sendable, crosses, house_send, house_sync, machine.the_send) depth 100 fits 1000000, tt)

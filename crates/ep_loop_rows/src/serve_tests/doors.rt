@@ -3,7 +3,7 @@
 ghost use Rattle.std.specs.Prelude.{◌≡◌, ◌<◌, [], length, true, refl, None};
 ghost use Rattle.ep_disk_mem.specs.Faults.{none_failed};
 
-use crate::tests::wire::{Wire, WireLink};
+use crate::serve_tests::wire::{Wire, WireLink};
 use ep_disk_mem::MemSource;
 use ep_doors::{Came, Doors};
 use ep_link::LinkBad;

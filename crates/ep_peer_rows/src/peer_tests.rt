@@ -1,9 +1,9 @@
 //! Writers over a link and a source in memory.
 
-use crate::{PeerBad, Reason, Written, write_session};
 use ep_disk_mem::MemSource;
 use ep_link::{Coming, MemLink, Passed};
 use ep_outside::Text;
+use ep_peer::{PeerBad, Reason, Written, write_session};
 use ep_units::Units;
 use std::alloc::Global;
 use std::collections::VecDeque;

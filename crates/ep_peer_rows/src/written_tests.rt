@@ -1,10 +1,10 @@
 //! Writers over a link, a source and a sink in memory.
 
-use crate::{Wrote, write_to};
 use ep_disk_mem::{MemSink, MemSource};
 use ep_link::{Coming, MemLink};
 use ep_outside::Text;
 use ep_units::Units;
+use ep_written::{Wrote, write_to};
 use std::alloc::Global;
 use std::collections::VecDeque;
 use std::sync::Wait;

@@ -1,4 +1,4 @@
-//! A shelf whose first disk holds a sync until it is let go, for tests.
+//! A shelf whose first disk holds a sync until it is let go.
 
 ghost use Rattle.std.specs.Prelude.{◌≡◌};
 ghost use Rattle.std.proofs.Common.{inl};

@@ -1,10 +1,10 @@
 //! A house by the calls of its directory's port.
 
-use crate::House;
 use ep_disk_mem::MemShelf;
 use ep_groups::{DirBad, DirPort, Drawn, Listed};
 use ep_keep::MapKeeper;
 use ep_outside::Limits;
+use ep_pad_port::House;
 use ep_units::{NoMemory, Units};
 use std::alloc::Global;
 use std::sync::Wait;

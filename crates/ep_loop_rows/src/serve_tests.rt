@@ -3,14 +3,13 @@
 mod doors;
 mod wire;
 
-use crate::server::Server;
-use crate::work::Work;
 use doors::{Api, Caller, Callers};
 use ep_disk_mem::{MemClock, MemDraws, MemShelf};
 use ep_doors::{Host, Job, MemSpawner, Served, ThreadSpawner, serve, start_all};
 use ep_keep::MapKeeper;
 use ep_outside::Limits;
 use ep_pad_port::House;
+use ep_serve::{Server, Work};
 use ep_units::NoMemory;
 use std::alloc::Global;
 use std::collections::VecDeque;
