@@ -1,13 +1,11 @@
 //! The operations of changeset text.
 
-ghost use Rattle.std.specs.Prelude.{◌≡◌, true, false, ◌+◌, ◌<◌, ◌≤◌, ◌^◌, IfOk};
+ghost use Rattle.std.specs.Prelude.{◌≡◌, true, false, ◌+◌, ◌<◌, ◌≤◌, ◌^◌};
 ghost use Rattle.ep_cs.specs.Runs.{inserted, passed};
 ghost use Rattle.ep_cs.specs.Normal.{joins, is_bare, same_kind};
 ghost use Rattle.ep_cs.specs.Longer.{GoesOn};
 
 use ep_attr::AttrMap;
-use ep_units::NoMemory;
-use std::alloc::Global;
 
 /// What an operation does with its units.
 #[derive(Clone, Copy, Debug, PartialEq, Eq)]
@@ -98,17 +96,5 @@ impl Op {
             self.lines = lines;
         }
         same
-    }
-
-    /// The same operation again.
-    pub fn copy(&self, alloc: Global) -> Result<Op, NoMemory>
-        ensures { IfOk result (λ o. o ≡ self.now) }
-    {
-        Ok(Op {
-            kind: self.kind,
-            units: self.units,
-            lines: self.lines,
-            attrs: self.attrs.copy(alloc)?,
-        })
     }
 }
