@@ -62,3 +62,8 @@ module _ {D : Type 0} (told_by : D → Option Contents) (failures moment : D →
       × Stands told_by failures new next
       × LeavesOnly moment since old.disk new.disk (MayRemain st next)
       × KeepsMarks is_steady stops_alone left old.disk new.disk
+
+module _ {D : Type 0} (told_by : D → Option Contents) (failures : D → ℕ) (left : D → Option ℕ) where
+  -- no device call was made of a disk: it has what it had, has failed as often, and would stop after as many calls
+  abbrev pub IsUncalled : D → D → Type 0
+  IsUncalled old new = (told_by new ≡ told_by old) × (failures new ≡ failures old) × (left new ≡ left old)

@@ -1,13 +1,14 @@
 //! The calls.
 
-ghost use Rattle.std.specs.Prelude.{◌≡◌, ◌≤◌, true};
+ghost use Rattle.std.specs.Prelude.{◌≡◌, ◌≤◌, true, IfErr};
 ghost use Rattle.std.specs.Option.{option_copied};
 ghost use Rattle.ep_units.specs.Text.{is_well_formed};
 ghost use Rattle.ep_history.specs.Entries.Entry.{Login, Resume, Accept, Fetch, Leave, Create, SetText, Delete, SetPublic, ReadText, ReadHistory, ReadStatus};
 ghost use Rattle.ep_history.specs.Entries.Answer.{LoginAnswer, ResumeAnswer, CommitAnswer, FetchAnswer, BirthAnswer, TextAnswer, HistoryAnswer, StatusAnswer, Done};
 ghost use Rattle.ep_step.specs.Telling.{told_by};
 ghost use Rattle.ep_pad_state.specs.Answering.{welcome_of, catch_up_of, fetched_of, piece_of, status_of};
-ghost use Rattle.ep_pad.specs.Crashes.{FetchesFirst, StepsOver};
+ghost use Rattle.ep_history.specs.declared.pad_bad.PadBad.TheVariants as lacks;
+ghost use Rattle.ep_pad.specs.Crashes.{FetchesFirst, IsUncalled, StepsOver};
 
 use crate::machine::PadMachine;
 use ep_apply::Doc;
@@ -52,7 +53,9 @@ impl<D: Disk> PadMachine<D> {
         change: Change,
         now: u64,
     ) -> Result<Committed, PadBad>
-        ensures { StepsOver D.told D.failures D.moment D.since D.is_steady D.stops_alone D.left self.old (Accept session base change now) (λ x. CommitAnswer (told_by x)) result self.new }
+        ensures steps { StepsOver D.told D.failures D.moment D.since D.is_steady D.stops_alone D.left self.old (Accept session base change now) (λ x. CommitAnswer (told_by x)) result self.new }
+        // An open machine takes no memory from the first device call on: where memory is wanting, none was made.
+        ensures unmade { self.old.is_open ≡ true → IfErr result (λ bad. bad ≡ lacks.NoMemory → IsUncalled D.told D.failures D.left self.old.disk self.new.disk) }
     {
         self.wake()?;
         self.take(session, base, change, now)

@@ -1,12 +1,13 @@
 //! How a record is kept.
 
-ghost use Rattle.std.specs.Prelude.{◌≡◌, ◌≤◌, ℕ, true, Some, None, MatchResult};
+ghost use Rattle.std.specs.Prelude.{◌≡◌, ◌≤◌, ℕ, true, Some, None, IfErr, MatchResult};
 ghost use Rattle.ep_history.specs.Machine.{MachineState, journal_fault};
 ghost use Rattle.ep_pad_file.specs.Standing.{size};
 ghost use Rattle.ep_pad_file.specs.Stopping.{IsStopped};
 ghost use Rattle.ep_pad_state.specs.Making.{after, IsReady};
 ghost use Rattle.ep_pad.specs.Standing.{Stands};
-ghost use Rattle.ep_pad.specs.Crashes.{Comes};
+ghost use Rattle.ep_history.specs.declared.pad_bad.PadBad.TheVariants as lacks;
+ghost use Rattle.ep_pad.specs.Crashes.{Comes, IsUncalled};
 ghost use Rattle.ep_pad.specs.Keeping.{IsKept, IsNotKept, IsStoppedAt};
 
 use crate::machine::PadMachine;
@@ -16,7 +17,7 @@ use ep_pad_state::Ready;
 
 impl<D: Disk> PadMachine<D> {
     /// Appends the record of a call that isn't refused, and then makes its change. It takes no memory from the first
-    /// device call on.
+    /// device call on: where memory is wanting none was made.
     pub(crate) fn keep<A: Drop>(&mut self, ready: Ready<A>) -> Result<A, PadBad>
         requires open { self.old.is_open ≡ true }
         requires ready { IsReady self.old.pad ready.change }
@@ -29,6 +30,7 @@ impl<D: Disk> PadMachine<D> {
             → MatchResult result
             (λ _. (journal_fault size st ready.record ≡ None) × IsStopped (D.told self.new.disk) st.records ready.record calls)
             (IsStoppedAt (D.told self.new.disk) st ready.record calls) }
+        ensures unmade { IfErr result (λ bad. bad ≡ lacks.NoMemory → IsUncalled D.told D.failures D.left self.old.disk self.new.disk) }
         ensures later { D.failures self.old.disk ≤ D.failures self.new.disk }
         ensures limits { self.new.limits ≡ self.old.limits }
     {

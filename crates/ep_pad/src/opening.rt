@@ -1,6 +1,6 @@
 //! Opening: the records of the file are read back, and the opening's own is appended.
 
-ghost use Rattle.std.specs.Prelude.{◌≡◌, ◌≤◌, ◌++◌, ◌∷◌, [], List, ℕ, true, false, Some, None, OnOk, IfErr, IfOk, MatchResult};
+ghost use Rattle.std.specs.Prelude.{◌≡◌, ◌≤◌, ◌++◌, ◌∷◌, [], List, ℕ, true, false, Some, None, OnOk, IsOk, IfErr, IfOk, MatchResult};
 ghost use Rattle.ep_history.specs.Machine.{MachineState, IsFirst, IsKeptState};
 ghost use Rattle.ep_history.specs.Records.{AreLegal, told};
 ghost use Rattle.ep_history.specs.declared.record.Record.{Record};
@@ -86,6 +86,7 @@ impl<D: Disk> PadMachine<D> {
             (λ _. (mid : MachineState) × IsWoken st mid × Comes D.told D.failures D.moment D.since D.is_steady D.stops_alone D.left self.old st self.new mid)
             (λ bad. (new : MachineState) × Sleeps st bad new × Comes D.told D.failures D.moment D.since D.is_steady D.stops_alone D.left self.old st self.new new) }
         ensures open { OnOk result (self.new.is_open ≡ true) }
+        ensures awake { self.old.is_open ≡ true → IsOk result × (self.new ≡ self.old) }
         ensures settled { (st : MachineState) → OnOk result (Stands D.told D.failures self.new st → MayHold (D.told self.new.disk) st.records st.pending) }
     {
         if self.is_open {

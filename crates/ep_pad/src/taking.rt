@@ -1,6 +1,6 @@
 //! A take that is stopped on the way.
 
-ghost use Rattle.std.specs.Prelude.{◌≡◌, ℕ, List, true, Some, None, IfOk, OnOk, MatchResult};
+ghost use Rattle.std.specs.Prelude.{◌≡◌, ℕ, List, true, Some, None, IfErr, IfOk, OnOk, MatchResult};
 ghost use Rattle.ep_outside.specs.Crash.{IsAsked};
 ghost use Rattle.ep_outside.specs.Disk.{Contents};
 ghost use Rattle.ep_history.specs.Entries.Entry.{Accept};
@@ -9,7 +9,8 @@ ghost use Rattle.ep_history.specs.Machine.{MachineState, IsKeptState, IsStep};
 ghost use Rattle.ep_pad_file.specs.Standing.{size, StandsFor};
 ghost use Rattle.ep_pad_file.specs.Stopping.{gate_behind, is_kept};
 ghost use Rattle.ep_step.specs.Telling.{told_by};
-ghost use Rattle.ep_pad.specs.Crashes.{Comes};
+ghost use Rattle.ep_history.specs.declared.pad_bad.PadBad.TheVariants as lacks;
+ghost use Rattle.ep_pad.specs.Crashes.{Comes, IsUncalled};
 ghost use Rattle.ep_pad.specs.Held.{Held};
 ghost use Rattle.ep_pad.specs.Opening.{stopped, IsWoken, MayFind};
 ghost use Rattle.ep_pad.specs.Standing.{replied, Stands};
@@ -42,6 +43,7 @@ impl<D: Disk> PadMachine<D> {
             → D.left self.old.disk ≡ Some calls → (asked : AnyImage) (c : Contents) (image : List ℕ) → D.told self.new.disk ≡ Some c → IsAsked c asked image
             → (at : MachineState) × StopsIn st (Accept session base change now) (replied (λ x. CommitAnswer (told_by x)) result) (is_kept (gate_behind st.records) calls asked) at
             × MayFind self.old.limits (D.failures self.new.disk) image at }
+        ensures unmade { IfErr result (λ bad. bad ≡ lacks.NoMemory → IsUncalled D.told D.failures D.left self.old.disk self.new.disk) }
         ensures limits { self.new.limits ≡ self.old.limits }
     {
         let _normal = change.ops();

@@ -1,5 +1,5 @@
 -- Whom a name stands for, where its place changes.
-use Rattle.std.proofs.Common.{◌≡◌, ℕ, zero, suc, ◌<◌, Bool, true, false, if◌then◌else◌, List, [], ◌∷◌, ◌++◌, ◌⊎◌, inl, inr, length, get_or, set, Option, Some, None, refl, sym, ap, ◌∙◌, subst, arith}
+use Rattle.std.proofs.Common.{◌≡◌, ℕ, zero, suc, ◌<◌, Bool, true, false, if◌then◌else◌, List, [], ◌∷◌, ◌++◌, ◌⊎◌, inl, inr, length, get_or, set, Option, Some, None, Result, Ok, Err, IfOk, IfErr, refl, sym, ap, ◌∙◌, subst, arith}
 use Rattle.std.specs.Prelude.{position}
 use Rattle.std.specs.Option.{option_map}
 use Rattle.std.proofs.lemmas.List.Quantifiers.{position-Some}
@@ -10,7 +10,11 @@ use Rattle.ep_history.proofs.Births.{decide-name}
 use Rattle.ep_schedule.specs.World.{Name}
 use Rattle.ep_world.specs.declared.actors.Actor.{Actor}
 use Rattle.ep_world.specs.declared.actors.Slot.{Slot}
-use Rattle.ep_world.specs.Actors.{IsWithout, found, kept_cut_off}
+use Rattle.ep_world.specs.declared.actors.Actor.TheVariants as actor
+use Rattle.ep_world.specs.declared.member.Member.{Member}
+use Rattle.ep_world.specs.declared.bad.WorldBad.{WorldBad}
+use Rattle.ep_world.specs.declared.bad.WorldBad.TheVariants as bad
+use Rattle.ep_world.specs.Actors.{IsNoClient, IsSame, IsWithout, Steps, StepsAt, found, kept_cut_off}
 
 -- a name that is found to be another
 same-name : (a b : Name) → text_eq a b ≡ true → a ≡ b
@@ -19,6 +23,14 @@ same-name a b e = go (decide-name a b)
     go : ((text_eq a b ≡ true) × (a ≡ b)) ⊎ ((text_eq a b ≡ false) × (a ≡ b → ⊥)) → a ≡ b
     go (inl z) = z.1
     go (inr z) = absurd (false≢true (sym z.0 ∙ e))
+
+-- a name that is another
+pub other-name : (a b : Name) → (a ≡ b → ⊥) → text_eq a b ≡ false
+other-name a b h = go (decide-name a b)
+  where
+    go : ((text_eq a b ≡ true) × (a ≡ b)) ⊎ ((text_eq a b ≡ false) × (a ≡ b → ⊥)) → text_eq a b ≡ false
+    go (inl z) = absurd (h z.1)
+    go (inr z) = z.0
 
 -- the first of two places decides, and only one of them has the name
 apart : (a n q : Name) → text_eq n a ≡ false → text_eq q a ≡ true → text_eq q n ≡ false
@@ -150,3 +162,35 @@ pub set-place : (xs items : List Slot) (n : Name) (i : ℕ) (x : Slot) (o : Opti
 set-place xs items n i x o e same is q =
     ap (λ ys. found (set ys i (record { name = x.name; actor = o })) q) same
     ∙ found-set xs n i x (record { name = x.name; actor = o }) (first-place xs n i x e) (ap (λ (s : Slot). s.name) (is ∙ ap (λ ys. get_or ys i x) same)) q
+
+-- a client takes a step where it stands
+pub step-place : (xs items new : List Slot) (n : Name) (i : ℕ) (x y : Slot) (m m' : Member) → position (λ (s : Slot). text_eq n s.name) xs ≡ Some i → items ≡ xs → x ≡ get_or items i x
+    → StepsAt x m m' y → new ≡ set items i y → Steps xs n m m' new
+step-place xs items new n i x y m m' e same is s set_is =
+    (sym (at-place xs items n i x e same is) ∙ s.0,
+     λ q. ap (λ ys. found ys q) (set_is ∙ ap (set items i) s.1) ∙ set-place xs items n i x (Some (actor.Named m')) e same is q)
+
+-- where no client is, nothing changes
+pub same-place : (xs items : List Slot) (n : Name) (i : ℕ) (x y : Slot) → position (λ (s : Slot). text_eq n s.name) xs ≡ Some i → items ≡ xs → x ≡ get_or items i x
+    → IsNoClient x.actor → y ≡ x → IsNoClient (found xs n) × IsSame xs (set items i y)
+same-place xs items n i x y e same is none stays =
+    let at : x.actor ≡ found xs n = at-place xs items n i x e same is in
+    (subst IsNoClient at none,
+     λ q. ap (λ z. found (set items i z) q) stays
+     ∙ set-place xs items n i x x.actor e same is q
+     ∙ ap (λ o. if text_eq q n then o else found xs q) at
+     ∙ go q (decide-name q n))
+  where
+    go : (q : Name) → ((text_eq q n ≡ true) × (q ≡ n)) ⊎ ((text_eq q n ≡ false) × (q ≡ n → ⊥)) → (if text_eq q n then found xs n else found xs q) ≡ found xs q
+    go q (inl z) = ap (λ t. if t then found xs n else found xs q) z.0 ∙ sym (ap (found xs) z.1)
+    go q (inr z) = ap (λ t. if t then found xs n else found xs q) z.0
+
+-- of what an answer says where a name is unknown
+pub unknown-by : {A : Type 0} {P Q : Type 0} (r : Result A WorldBad) → IfErr r (λ b. b ≡ bad.Unknown → P) → (P → Q) → IfErr r (λ b. b ≡ bad.Unknown → Q)
+unknown-by (Ok a) h f = tt
+unknown-by (Err b) h f = λ e. f (h e)
+
+-- of what an answer says of its success
+pub done-by : {A : Type 0} {P Q : A → Type 0} (r : Result A WorldBad) → IfOk r P → ((a : A) → P a → Q a) → IfOk r Q
+done-by (Ok a) h f = f a h
+done-by (Err b) h f = tt

@@ -1,5 +1,5 @@
 -- A client is taken out, makes its step, and is put back.
-use Rattle.std.proofs.Common.{◌≡◌, ℕ, Bool, false, List, Option, Some, sym, ap, ◌∙◌, subst}
+use Rattle.std.proofs.Common.{◌≡◌, ℕ, Bool, true, false, List, ◌∷◌, Option, Some, None, if◌then◌else◌, refl, sym, ap, ◌∙◌, subst}
 use Rattle.ep_units.specs.Text.{text_eq}
 use Rattle.ep_outside.specs.Disk.{Contents}
 use Rattle.ep_history.specs.Kept.{KeptClient, Keeps}
@@ -14,7 +14,7 @@ use Rattle.ep_world.specs.declared.actors.Actor.TheVariants as actor
 use Rattle.ep_world.specs.declared.actors.Slot.{Slot}
 use Rattle.ep_world.specs.declared.member.Member.{Member}
 use Rattle.ep_world.specs.declared.world.World.{World}
-use Rattle.ep_world.specs.Actors.{IsWithout, PutsActor, actor_of, found, member_of}
+use Rattle.ep_world.specs.Actors.{IsWithout, PutsActor, Steps, actor_of, found, member_of}
 use Rattle.ep_world.specs.Standing.{IsAt, IsRun, StandsFor}
 use Rattle.ep_world.proofs.Leading.{kept}
 use Rattle.ep_world.proofs.Seating.{is-named, put-actors, put-back, same-stands, without-others}
@@ -38,6 +38,19 @@ pub record IsTurn (old : List Slot) (n : Name) (m m' : Member) (new : List Slot)
   pub taken : found old n ≡ Some (actor.Named m)
   pub without : IsWithout old n between
   pub seated : PutsActor between n (actor.Named m') new
+
+-- where it took its step in place
+pub in-place : (old : List Slot) (n : Name) (m m' : Member) (new : List Slot) → Steps old n m m' new → IsTurn old n m m' new
+in-place old n m m' new s = record {
+  between = record { name = n; actor = None } ∷ old;
+  taken = s.0;
+  without = λ q. refl;
+  seated = λ q. s.1 q ∙ go q (text_eq q n);
+}
+  where
+    go : (q : Name) (t : Bool) → (if t then Some (actor.Named m') else found old q) ≡ (if t then Some (actor.Named m') else (if t then None else found old q))
+    go q true = refl
+    go q false = refl
 
 module _ {D : Type 0} (told_by : D → Option Contents) (failures : D → ℕ) (stops_alone : D → Bool) (alone : Bool) (rs : List Record) where
   -- whose turn it is, and for what the world stands behind it

@@ -34,6 +34,14 @@ IsWithout old n new = (q : Name) → found new q ≡ (if text_eq q n then None e
 abbrev pub PutsActor : List Slot → Name → Actor → List Slot → Type 0
 PutsActor old n a new = (q : Name) → found new q ≡ (if text_eq q n then Some a else found old q)
 
+-- a client is another now where it stands
+abbrev pub StepsAt : Slot → Member → Member → Slot → Type 0
+StepsAt old m m' new = (old.actor ≡ Some (actor.Named m)) × (new ≡ record old { actor = Some (actor.Named m') })
+
+-- the client of a name is another now, and everybody else is as before
+abbrev pub Steps : List Slot → Name → Member → Member → List Slot → Type 0
+Steps old n m m' new = (found old n ≡ Some (actor.Named m)) × PutsActor old n (actor.Named m') new
+
 -- each name stands for whom it stood
 abbrev pub IsSame : List Slot → List Slot → Type 0
 IsSame old new = (q : Name) → found new q ≡ found old q

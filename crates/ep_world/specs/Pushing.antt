@@ -38,3 +38,10 @@ module _ {D : Type 0} (told_by : D → Option Contents) (failures : D → ℕ) (
   abbrev pub TellsMember : PadState → Member → Held D → Member → Pushed → Type 0
   TellsMember pad old machine new p =
       TellsIf (old.client.connected && not old.conn.closed) pad old.conn new.conn p × (new ≡ record old { conn = new.conn }) × IsAt told_by failures stops_alone alone rs machine pad
+
+module _ {D : Type 0} (told_by : D → Option Contents) (failures : D → ℕ) (stops_alone : D → Bool) where
+  -- the same, whatever pad the machine is of
+  abbrev pub Tells : Held D → Member → Held D → Member → Pushed → Type 0
+  Tells before old machine new p =
+      (alone : Bool) (rs : List Record) (pad : PadState) → IsAt told_by failures stops_alone alone rs before pad
+      → TellsMember told_by failures stops_alone alone rs pad old machine new p

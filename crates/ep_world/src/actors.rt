@@ -3,13 +3,21 @@
 ghost use Rattle.std.specs.Prelude.{◌≡◌, [], if◌then◌else◌, ◌≢◌, Option, Some, None, OnOk, IfOk, IfErr, position};
 ghost use Rattle.std.specs.Option.{option_map};
 ghost use Rattle.ep_units.specs.Text.{Text, text_eq};
-ghost use Rattle.ep_world.specs.Actors.{found, kept_cut_off, is_a_client, is_a_guest, IsNoClient, IsSame, IsWithout, PutsActor};
+ghost use Rattle.ep_world.specs.Actors.{found, kept_cut_off, is_a_client, is_a_guest, IsNoClient, IsSame, IsWithout, PutsActor, Steps, StepsAt};
+ghost use Rattle.ep_world.specs.Failing.{IsFailure};
+ghost use Rattle.ep_world.specs.Members.{HearsDown};
+ghost use Rattle.ep_world.specs.Pushing.{Tells};
+ghost use Rattle.ep_world.specs.declared.member.Member.{Member as AMember};
 ghost use Rattle.ep_world.specs.declared.actors.Actor.TheVariants as actor;
 ghost use Rattle.ep_world.specs.declared.bad.WorldBad.TheVariants as unknown;
 
 use crate::bad::WorldBad;
 use crate::conn::Conn;
 use crate::member::Member;
+use crate::telling::{Pushed, tell_member};
+use ep_event::Shown;
+use ep_outside::Disk;
+use ep_pad::PadMachine;
 use ep_units::{NoMemory, Units};
 use std::alloc::Global;
 use std::marker::Model;
@@ -59,7 +67,7 @@ impl Actors {
     fn place(&self, name: &Units) -> Option<usize>
         ensures { result ≡ position (λ s. text_eq name.now s.name) self.now }
     {
-        self.slots.iter().position(|slot| *name == slot.name)
+        self.slots.iter().position(|slot| slot.is_called(name))
     }
 
     /// Whom a name stands for.
@@ -139,6 +147,34 @@ impl Actors {
         self.put(alloc, name, Actor::Named(member))
     }
 
+    /// The client of a name hears the first of its queue down.
+    pub(crate) fn hear(&mut self, alloc: Global, name: Units) -> Result<Shown, WorldBad>
+        ensures heard { IfOk result (λ s. (m : AMember) × ((m' : AMember) × Steps self.old name m m' self.new × HearsDown name m m' s)) }
+        ensures unknown { IfErr result (λ bad. bad ≡ unknown.Unknown → IsNoClient (found self.old name) × IsSame self.old self.new) }
+        ensures failed { IfErr result (λ bad. bad ≢ unknown.Unknown → bad ≡ unknown.NoMemory) }
+    {
+        let Some(place) = self.place(&name) else {
+            return Err(WorldBad::Unknown);
+        };
+        self.slots[place].hear(alloc, name)
+    }
+
+    /// The client of a name is told the next, if it can be told anything.
+    pub(crate) fn push<D: Disk>(
+        &mut self,
+        machine: &mut PadMachine<D>,
+        name: &Units,
+    ) -> Result<Pushed, WorldBad>
+        ensures told { IfOk result (λ p. (m : AMember) × ((m' : AMember) × Steps self.old name.now m m' self.new × Tells D.told D.failures D.stops_alone machine.old m machine.new m' p)) }
+        ensures unknown { IfErr result (λ bad. bad ≡ unknown.Unknown → IsNoClient (found self.old name.now) × IsSame self.old self.new × (machine.new ≡ machine.old)) }
+        ensures failed { IfErr result (λ bad. bad ≢ unknown.Unknown → IsFailure bad) }
+    {
+        let Some(place) = self.place(name) else {
+            return Err(WorldBad::Unknown);
+        };
+        self.slots[place].push(machine)
+    }
+
     /// All connections are gone.
     pub fn cut_off(&mut self)
         ensures { (n : Text) → found self.new n ≡ option_map kept_cut_off (found self.old n) }
@@ -150,10 +186,47 @@ impl Actors {
 }
 
 impl Slot {
+    /// Whether it is this name's. Most names of others have another length or another last unit.
+    fn is_called(&self, name: &Units) -> bool
+        ensures { result ≡ text_eq name.now self.now.name }
+    {
+        let (own, sought) = (self.name.as_slice(), name.as_slice());
+        let units = own.len();
+        if units != sought.len() {
+            return false;
+        }
+        if units > 0 && own[units - 1] != sought[units - 1] {
+            return false;
+        }
+        *name == self.name
+    }
+
     fn put(&mut self, actor: Actor)
         ensures { self.new ≡ record self.old { actor = Some actor } }
     {
         self.actor = Some(actor);
+    }
+
+    fn hear(&mut self, alloc: Global, name: Units) -> Result<Shown, WorldBad>
+        ensures heard { IfOk result (λ s. (m : AMember) × ((m' : AMember) × StepsAt self.old m m' self.new × HearsDown name m m' s)) }
+        ensures unknown { IfErr result (λ bad. bad ≡ unknown.Unknown → IsNoClient self.old.actor × (self.new ≡ self.old)) }
+        ensures failed { IfErr result (λ bad. bad ≢ unknown.Unknown → bad ≡ unknown.NoMemory) }
+    {
+        match &mut self.actor {
+            Some(Actor::Named(member)) => Ok(member.hear(alloc, name)?),
+            _ => Err(WorldBad::Unknown),
+        }
+    }
+
+    fn push<D: Disk>(&mut self, machine: &mut PadMachine<D>) -> Result<Pushed, WorldBad>
+        ensures told { IfOk result (λ p. (m : AMember) × ((m' : AMember) × StepsAt self.old m m' self.new × Tells D.told D.failures D.stops_alone machine.old m machine.new m' p)) }
+        ensures unknown { IfErr result (λ bad. bad ≡ unknown.Unknown → IsNoClient self.old.actor × (self.new ≡ self.old) × (machine.new ≡ machine.old)) }
+        ensures failed { IfErr result (λ bad. bad ≢ unknown.Unknown → IsFailure bad) }
+    {
+        match &mut self.actor {
+            Some(Actor::Named(member)) => Ok(tell_member(machine, member)?),
+            _ => Err(WorldBad::Unknown),
+        }
     }
 
     fn cut_off(&mut self)

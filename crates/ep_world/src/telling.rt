@@ -37,9 +37,7 @@ impl<D: Crash> World<D> {
     pub(crate) fn push(&mut self, name: Units) -> Result<Shown, WorldBad>
         ensures { (now : ℕ) → Plays D.told D.failures D.stops_alone self.old now (event.Push name) result self.new }
     {
-        let mut member = self.actors.member(self.alloc, &name)?;
-        let pushed = tell_member(&mut self.machine, &mut member)?;
-        self.actors.seat(self.alloc, &name, member)?;
+        let pushed = self.actors.push(&mut self.machine, &name)?;
         Ok(pushed.show(name))
     }
 
@@ -47,10 +45,7 @@ impl<D: Crash> World<D> {
     pub(crate) fn hear(&mut self, name: Units) -> Result<Shown, WorldBad>
         ensures { (now : ℕ) → Plays D.told D.failures D.stops_alone self.old now (event.Hear name) result self.new }
     {
-        let mut member = self.actors.member(self.alloc, &name)?;
-        let shown = member.hear(self.alloc, name.copy(self.alloc)?)?;
-        self.actors.seat(self.alloc, &name, member)?;
-        Ok(shown)
+        Ok(self.actors.hear(self.alloc, name)?)
     }
 
     /// A client's connection is lost.
@@ -81,7 +76,7 @@ fn show_lost(name: Units, was_connected: bool) -> Shown
 }
 
 /// A client is told the next, if it can be told anything.
-fn tell_member<D: Disk>(
+pub(crate) fn tell_member<D: Disk>(
     machine: &mut PadMachine<D>,
     member: &mut Member,
 ) -> Result<Pushed, WorldBad>

@@ -1,13 +1,16 @@
 use Rattle.std.proofs.Common.{refl}
 use Rattle.ep_world.specs.declared.world.World.{World}
 use Rattle.ep_world.proofs.Pushes.{push-turn}
+use Rattle.ep_world.proofs.Turns.{in-place}
 use Rattle.ep_world.proofs.world.World.push.Goals as goal
 
 pub returns : goal.returns
 returns g c = λ now alone rs w ks r s.
     let old = c.args.self.now in
-    let new : World g.row.D.Denot = record { alloc = old.alloc; id = old.id; machine = c.tell_member.new.machine; actors = c.seat.new.self } in
-    let m = c.in_ok-member in
-    push-turn g.D.Disk.told g.D.Device.failures g.D.Disk.stops_alone alone rs old new w ks c.args.name now m.member c.tell_member.new.member c.in_ok-pushed.pushed c.show.result r s refl
-    (record { between = c.member.new.self; taken = m.ensures.taken.0; without = m.ensures.taken.1; seated = c.in_ok-seat.ensures })
-    (c.in_ok-pushed.ensures.told alone rs) c.show.ensures
+    let h = c.in_ok-pushed.ensures.told in
+    let m = h.0 in
+    let m' = h.1.0 in
+    let new : World g.row.D.Denot = record { alloc = old.alloc; id = old.id; machine = c.push.new.machine; actors = c.push.new.self } in
+    push-turn g.D.Disk.told g.D.Device.failures g.D.Disk.stops_alone alone rs old new w ks c.args.name now m m' c.in_ok-pushed.pushed c.show.result r s refl
+    (in-place old.actors c.args.name m m' c.push.new.self h.1.1)
+    (h.1.2 alone rs) c.show.ensures
