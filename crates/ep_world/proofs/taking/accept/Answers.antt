@@ -10,13 +10,13 @@ use Rattle.ep_world.proofs.taking.accept.Goals as goal
 
 pub returns-in-Ok : goal.returns-in-Ok
 returns-in-Ok g c = λ alone rs pad msg b e i s.
-    let a = answered g.D.Disk.told g.D.Device.failures g.D.Disk.stops_alone alone rs c.args.machine.now c.accept.new.self pad (Accept c.args.session c.args.base c.args.change c.args.now) (replied (λ x. CommitAnswer (told_by x)) c.accept.result) s (λ st k x. let y = c.accept.ensures st k x in (y.0, y.1, y.2, y.4.alone)) in
+    let a = answered g.D.Disk.told g.D.Device.failures g.D.Disk.stops_alone alone rs c.args.machine.now c.accept.new.self pad (Accept c.args.session c.args.base c.args.change c.args.now) (replied (λ x. CommitAnswer (told_by x)) c.accept.result) s (λ st k x. let y = c.accept.ensures.steps st k x in (y.0, y.1, y.2, y.4.alone)) in
     made-of g.D.Disk.told g.D.Device.failures g.D.Disk.stops_alone alone rs c.args.machine.now c.accept.new.self pad c.args.session msg c.args.now c.args.base c.args.change c.in-Ok.made b e i
     (subst (λ r. IsAnswered g.D.Disk.told g.D.Device.failures g.D.Disk.stops_alone alone rs c.args.machine.now pad (Accept c.args.session c.args.base c.args.change c.args.now) (replied (λ x. CommitAnswer (told_by x)) r) c.accept.new.self) c.in-Ok.is a)
 
 pub returns-in-Err : goal.returns-in-Err
 returns-in-Err g c = λ alone rs pad msg b e i s.
-    let a = answered g.D.Disk.told g.D.Device.failures g.D.Disk.stops_alone alone rs c.args.machine.now c.accept.new.self pad (Accept c.args.session c.args.base c.args.change c.args.now) (replied (λ x. CommitAnswer (told_by x)) c.accept.result) s (λ st k x. let y = c.accept.ensures st k x in (y.0, y.1, y.2, y.4.alone)) in
+    let a = answered g.D.Disk.told g.D.Device.failures g.D.Disk.stops_alone alone rs c.args.machine.now c.accept.new.self pad (Accept c.args.session c.args.base c.args.change c.args.now) (replied (λ x. CommitAnswer (told_by x)) c.accept.result) s (λ st k x. let y = c.accept.ensures.steps st k x in (y.0, y.1, y.2, y.4.alone)) in
     subst (brought g.D.Disk.told g.D.Device.failures g.D.Disk.stops_alone alone rs pad c.args.session msg c.args.now c.accept.new.self) (sym c.not_made.ensures)
     (not-made-of g.D.Disk.told g.D.Device.failures g.D.Disk.stops_alone alone rs c.args.machine.now c.accept.new.self pad c.args.session msg c.args.now c.args.base c.args.change c.in-Err.bad b e i
     (subst (λ r. IsAnswered g.D.Disk.told g.D.Device.failures g.D.Disk.stops_alone alone rs c.args.machine.now pad (Accept c.args.session c.args.base c.args.change c.args.now) (replied (λ x. CommitAnswer (told_by x)) r) c.accept.new.self) c.in-Err.is a))
