@@ -10,7 +10,7 @@ use crate::work::{authors, doc};
 use anyhow::{Result, anyhow};
 use ep_apply::{Doc, apply};
 use ep_attr::AttrMap;
-use ep_cs::Change;
+use ep_cs::{Change, MOST_UNITS};
 use ep_invert::splice;
 use ep_slider::slide;
 use ep_units::Units;
@@ -30,7 +30,7 @@ pub fn letter(alloc: Global, doc: &Doc, at: u32) -> Result<Change>
     ensures { IfOk result (λ change. Fits change doc.now) }
 {
     let text = Units::from_str(alloc, "x")?;
-    if doc.len() == u32::MAX || text.len() > 1 {
+    if doc.len() == MOST_UNITS || text.len() > 1 {
         return Err(anyhow!("the document is too long"));
     }
     Ok(splice(alloc, doc, at, 0, &text, &AttrMap::none(alloc))?)

@@ -112,7 +112,7 @@ fn put(attr: Attr, pool: &mut Pool) -> Result<(), Fault>
     ensures pairs { OnOk result (pool.new.pairs ≡ put pool.old.pairs (pair_of attr)) }
     ensures memory { IfErr result (λ e. e ≡ Fault.Memory) }
 {
-    if pool.len() == u32::MAX {
+    if !pool.can_number_more() {
         return Err(Fault::Memory);
     }
     pool.reserve(1)?;

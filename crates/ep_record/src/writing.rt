@@ -23,6 +23,9 @@ use std::alloc::Global;
 /// For how many bytes there is room at first: the record of a letter has fewer.
 const ROOM: usize = 128;
 
+/// A text in a record has at most so many bytes.
+const MOST_BYTES: usize = u32::MAX as usize;
+
 #[tactic(auto, unfolding(crate::specs::Bytes::number))]
 fn put_number(n: u64, out: &mut Vec<u8>) -> Result<(), Fault>
     ensures { Adds result out.old.items out.new.items (number n) (IsNumber n) }
@@ -69,7 +72,7 @@ fn utf8(alloc: Global, us: &Units) -> Result<String, Fault>
     have_16_bits(units);
     match us.to_text(alloc) {
         Ok(bytes) => {
-            if bytes.len() > u32::MAX as usize {
+            if bytes.len() > MOST_BYTES {
                 return Err(Fault::NoRecord);
             }
             Ok(bytes)
@@ -86,7 +89,7 @@ fn ascii(us: &Units) -> Option<&[u16]>
     ensures few { IfSome result (λ units. length units.now < 2 ^ 32) }
 {
     let units = us.as_slice();
-    if units.len() <= u32::MAX as usize && is_ascii(units) {
+    if units.len() <= MOST_BYTES && is_ascii(units) {
         Some(units)
     } else {
         None

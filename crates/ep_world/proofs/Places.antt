@@ -166,20 +166,22 @@ set-place xs items n i x o e same is q =
 -- a client takes a step where it stands
 pub step-place : (xs items new : List Slot) (n : Name) (i : ℕ) (x y : Slot) (m m' : Member) → position (λ (s : Slot). text_eq n s.name) xs ≡ Some i → items ≡ xs → x ≡ get_or items i x
     → StepsAt x m m' y → new ≡ set items i y → Steps xs n m m' new
-step-place xs items new n i x y m m' e same is s set_is =
-    (sym (at-place xs items n i x e same is) ∙ s.0,
-     λ q. ap (λ ys. found ys q) (set_is ∙ ap (set items i) s.1) ∙ set-place xs items n i x (Some (actor.Named m')) e same is q)
+step-place xs items new n i x y m m' e same is s set_is = (
+  sym (at-place xs items n i x e same is) ∙ s.0,
+  λ q. ap (λ ys. found ys q) (set_is ∙ ap (set items i) s.1) ∙ set-place xs items n i x (Some (actor.Named m')) e same is q,
+)
 
 -- where no client is, nothing changes
 pub same-place : (xs items : List Slot) (n : Name) (i : ℕ) (x y : Slot) → position (λ (s : Slot). text_eq n s.name) xs ≡ Some i → items ≡ xs → x ≡ get_or items i x
     → IsNoClient x.actor → y ≡ x → IsNoClient (found xs n) × IsSame xs (set items i y)
 same-place xs items n i x y e same is none stays =
-    let at : x.actor ≡ found xs n = at-place xs items n i x e same is in
-    (subst IsNoClient at none,
-     λ q. ap (λ z. found (set items i z) q) stays
-     ∙ set-place xs items n i x x.actor e same is q
-     ∙ ap (λ o. if text_eq q n then o else found xs q) at
-     ∙ go q (decide-name q n))
+    let at : x.actor ≡ found xs n = at-place xs items n i x e same is in (
+      subst IsNoClient at none,
+      λ q. ap (λ z. found (set items i z) q) stays
+          ∙ set-place xs items n i x x.actor e same is q
+          ∙ ap (λ o. if text_eq q n then o else found xs q) at
+          ∙ go q (decide-name q n),
+    )
   where
     go : (q : Name) → ((text_eq q n ≡ true) × (q ≡ n)) ⊎ ((text_eq q n ≡ false) × (q ≡ n → ⊥)) → (if text_eq q n then found xs n else found xs q) ≡ found xs q
     go q (inl z) = ap (λ t. if t then found xs n else found xs q) z.0 ∙ sym (ap (found xs) z.1)

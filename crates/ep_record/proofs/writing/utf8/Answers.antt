@@ -1,13 +1,5 @@
-use Rattle.std.proofs.Common.{ap, arith, Err}
+use Rattle.std.proofs.Common.{ap, Err}
 use Rattle.ep_record.proofs.writing.utf8.Goals as goal
-
-pub returns-else-len-clause-is : goal.returns-else-len-clause-is
-returns-else-len-clause-is c =
-    record {
-      units = λ i. rw (← c.as_slice-units.ensures) (c.have_16_bits.ensures i);
-      whole = (c.well_formed_has_no_lone_half.ensures c.args.us.now).1 c.in-Ok.ensures.whole;
-      few = rw (← c.in-Ok.ensures.text) (omega (arith, c.if-len.false, c.len.ensures));
-    }
 
 pub returns-in-Err-LonePair-clause-none : goal.returns-in-Err-LonePair-clause-none
 returns-in-Err-LonePair-clause-none c =

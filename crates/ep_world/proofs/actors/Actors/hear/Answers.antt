@@ -7,9 +7,15 @@ pub returns-in_default-clause-unknown : goal.returns-in_default-clause-unknown
 returns-in_default-clause-unknown c = λ _. (subst IsNoClient (sym (found-none c.args.self.now c.args.name (sym c.in_default.ensures))) tt, λ q. refl)
 
 pub returns-clause-heard : goal.returns-clause-heard
-returns-clause-heard c = done-by c.hear.result c.hear.ensures.heard (λ s h.
-    (h.0, (h.1.0, step-place c.args.self.now c.self.inside.slots.items _ c.args.name c.in-Some.place c.index_mut.result.now c.hear.new.self h.0 h.1.0
-      (sym c.in-Some.ensures) c.self.view_is c.index_mut.ensures.value h.1.1 refl, h.1.2)))
+returns-clause-heard c = done-by c.hear.result c.hear.ensures.heard (λ s h. (
+  h.0,
+  (
+    h.1.0,
+    step-place c.args.self.now c.self.inside.slots.items _ c.args.name c.in-Some.place c.index_mut.result.now c.hear.new.self h.0 h.1.0
+        (sym c.in-Some.ensures) c.self.view_is c.index_mut.ensures.value h.1.1 refl,
+    h.1.2,
+  ),
+))
 
 pub returns-clause-unknown : goal.returns-clause-unknown
 returns-clause-unknown c = unknown-by c.hear.result c.hear.ensures.unknown (λ h.
