@@ -24,6 +24,7 @@ pub mod Stretches
 pub mod InOrder
 pub mod Drafts
 pub mod Longer
+mod Bare
 pub mod Packings
 pub mod TrueRuns
 pub mod NewMaps

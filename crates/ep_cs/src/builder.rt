@@ -1,6 +1,7 @@
 //! Changes written from left to right.
 
 ghost use Rattle.std.specs.Prelude.{◌≡◌, true, false, ◌+◌, ◌≤◌, ◌^◌, ◌<◌, length, OnOk, OnErr, IfOk};
+ghost use Rattle.ep_attr.specs.AttrMap.{none};
 ghost use Rattle.ep_cs.specs.Steps.{passed};
 ghost use Rattle.ep_cs.specs.Draft.{blank, keeping, dropping, inserting, drafted, inserted_by, new_length};
 ghost use Rattle.ep_cs.specs.Fits.{AreDocuments};
@@ -54,6 +55,18 @@ fn go_on(ops: &mut Vec<Op>, units: u32, lines: u32, attrs: &AttrMap) -> bool
     }
 }
 
+/// The same with no attributes.
+fn go_on_bare(ops: &mut Vec<Op>, units: u32, lines: u32) -> bool
+    requires room { all_passed ops.old.items + units < 2 ^ 32 }
+    ensures longer { result ≡ true → LastGoesOn ops.old.items units lines none ops.new.items }
+    ensures same { result ≡ false → ops.new.items ≡ ops.old.items }
+{
+    match ops.last_mut() {
+        Some(last) => last.go_on_bare(units, lines),
+        None => false,
+    }
+}
+
 impl Builder {
     /// Nothing written, of a change of so many UTF-16 units.
     pub fn new(alloc: Global, old_len: u32) -> Builder
@@ -93,6 +106,9 @@ impl Builder {
         ensures ok { OnOk result (self.new ≡ keeping self.old units lines attrs.now) }
         ensures err { OnErr result (self.new ≡ self.old) }
     {
+        if attrs.is_none() {
+            return self.keep_bare(units, lines);
+        }
         let attrs = attrs.copy(self.alloc)?;
         self.keep_owned(units, lines, attrs)
     }
@@ -116,6 +132,29 @@ impl Builder {
             lines,
             attrs,
         })?;
+        Ok(())
+    }
+
+    /// The same with the map without pairs.
+    pub fn keep_bare(&mut self, units: u32, lines: u32) -> Result<(), NoMemory>
+        requires inside { passed self.old.steps + units ≤ self.old.old }
+        requires lined { lines ≤ units }
+        ensures ok { OnOk result (self.new ≡ keeping self.old units lines none) }
+        ensures err { OnErr result (self.new ≡ self.old) }
+    {
+        if units == 0 {
+            return Ok(());
+        }
+        if go_on_bare(&mut self.ops, units, lines) {
+            return Ok(());
+        }
+        self.ops.reserve(1)?;
+        self.ops.push_reserved(Op {
+            kind: Kind::Keep,
+            units,
+            lines,
+            attrs: AttrMap::none(self.alloc),
+        });
         Ok(())
     }
 

@@ -131,22 +131,19 @@ fn take(
     }
 }
 
-fn is_insert_then_drop(kind: Kind, next: Kind) -> bool
-    ensures { result ≡ is_insert_then_drop kind next }
-{
-    match (kind, next) {
-        (Kind::Insert, Kind::Drop) => true,
-        (_, _) => false,
-    }
-}
-
 /// Whether a run may stand before these.
 fn precedes(op: &Op, later: &[Op]) -> bool
     ensures { result ≡ precedes op.now later.now }
 {
     match later {
         [] => !op.is_bare(),
-        [next, ..] => !op.joins(next) && !is_insert_then_drop(op.kind, next.kind),
+        [next, ..] => match (op.kind, next.kind) {
+            (Kind::Insert, Kind::Drop) => false,
+            (Kind::Keep, Kind::Keep) | (Kind::Drop, Kind::Drop) | (Kind::Insert, Kind::Insert) => {
+                !op.joins(next)
+            }
+            (_, _) => true,
+        },
     }
 }
 

@@ -1,6 +1,7 @@
 //! The operations of changeset text.
 
 ghost use Rattle.std.specs.Prelude.{◌≡◌, true, false, ◌+◌, ◌<◌, ◌≤◌, ◌^◌};
+ghost use Rattle.ep_attr.specs.AttrMap.{none};
 ghost use Rattle.ep_cs.specs.Runs.{inserted, passed};
 ghost use Rattle.ep_cs.specs.Normal.{joins, is_bare, same_kind};
 ghost use Rattle.ep_cs.specs.Longer.{GoesOn};
@@ -96,5 +97,19 @@ impl Op {
             self.lines = lines;
         }
         same
+    }
+
+    /// Keeps so many units more, where it keeps units without newlines and with no attributes.
+    pub(crate) fn go_on_bare(&mut self, units: u32, lines: u32) -> bool
+        requires room { passed self.old.kind self.old.units + units < 2 ^ 32 }
+        ensures longer { result ≡ true → GoesOn self.old units lines none self.new }
+        ensures same { result ≡ false → self.new ≡ self.old }
+    {
+        if self.lines > 0 || !self.is_bare() {
+            return false;
+        }
+        self.units += units;
+        self.lines = lines;
+        true
     }
 }

@@ -1,7 +1,6 @@
 -- All of a change as what is left of it.
-use Rattle.std.proofs.Common.{◌≡◌, ℕ, List, [], ◌∷◌, take, drop, refl, sym, ap, ◌∙◌, subst}
+use Rattle.std.proofs.Common.{◌≡◌, ℕ, List, [], ◌∷◌, take, drop, refl, sym, ◌∙◌, subst}
 use Rattle.ep_units.specs.Text.{Text}
-use Rattle.ep_attr.specs.AttrMap.{AttrMap}
 use Rattle.ep_cs.specs.declared.op.Kind.{Kind}
 use Rattle.ep_cs.specs.declared.op.Kind.TheVariants as kind
 use Rattle.ep_cs.specs.declared.op.Op.{Op}
@@ -25,8 +24,8 @@ normal_written (o ∷ os) bank h = (go o.kind h.0, normal_written os (drop (inse
     go kind.Insert is = (is.0, is.2)
 
 -- runs of a change whose first is whole
-pub first_written : (ops : List Op) (units lines : ℕ) (bank text runs_bank : Text) (runs : List Op) → AreNormal runs runs_bank → ops ≡ runs → units ≡ first_units ops → lines ≡ first_lines ops → bank ≡ text → text ≡ runs_bank
-    → AreWritten (with_first units lines ops) bank
-first_written ops units lines bank text runs_bank runs n o u l b t =
-    let e : with_first units lines ops ≡ runs = (λ i. with_first (u i) (l i) ops) ∙ whole_first ops ∙ o in
-    subst (λ (x : List Op × Text). AreWritten x.0 x.1) (λ i. (sym e i, sym (b ∙ t) i)) (normal_written runs runs_bank n)
+pub first_runs : (ops : List Op) (units lines : ℕ) (runs : List Op) → ops ≡ runs → units ≡ first_units ops → lines ≡ first_lines ops → with_first units lines ops ≡ runs
+first_runs ops units lines runs o u l = (λ i. with_first (u i) (l i) ops) ∙ whole_first ops ∙ o
+
+pub first_written : (ops : List Op) (bank text runs_bank : Text) (runs : List Op) → AreNormal runs runs_bank → ops ≡ runs → bank ≡ text → text ≡ runs_bank → AreWritten ops bank
+first_written ops bank text runs_bank runs n e b t = subst (λ (x : List Op × Text). AreWritten x.0 x.1) (λ i. (sym e i, sym (b ∙ t) i)) (normal_written runs runs_bank n)

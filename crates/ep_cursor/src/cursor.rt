@@ -20,14 +20,14 @@ pub struct Head<'a> {
     pub text: &'a [u16],
 }
 
-/// What is left of a change.
+/// What is left of a change, and of the places of the old text.
 #[derive(Drop)]
 pub struct Cursor<'a> {
     ops: &'a [Op],
     units: u32,
     lines: u32,
     bank: &'a [u16],
-    rest: u32,
+    places: u32,
 }
 
 impl<'a> Model for Cursor<'a> {
@@ -69,16 +69,12 @@ impl<'a> Cursor<'a> {
         ensures normal { IsNormal change.now }
     {
         let ops = change.ops();
-        let mut rest = change.old_len();
-        for op in ops {
-            rest -= op.passed();
-        }
         Cursor {
             ops,
             units: units_of(ops),
             lines: lines_of(ops),
             bank: change.bank().as_slice(),
-            rest,
+            places: change.old_len(),
         }
     }
 
@@ -117,7 +113,7 @@ impl<'a> Cursor<'a> {
             [op, later @ ..] => {
                 match op.kind {
                     Kind::Insert => self.bank = &self.bank[units as usize..],
-                    _ => {}
+                    _ => self.places -= units,
                 }
                 if units < self.units {
                     self.units -= units;
@@ -136,7 +132,7 @@ impl<'a> Cursor<'a> {
         requires { units ≤ self.old.rest }
         ensures { self.new ≡ skipped units self.old }
     {
-        self.rest -= units;
+        self.places -= units;
     }
 }
 

@@ -195,3 +195,49 @@ second_then_first side out mid end sa sa' sb sb' t level m eb e ea =
     (λ i. end ++ followed side (ea i) (eb i))
     ∙ two_more out mid end (inserts (piece sb)) (passes (piece sa)) (followed side (behind sa) (behind sb)) m e
     ∙ ap (λ s. out ++ s) (sym (gap_of side sa sb false t level))
+
+-- ---- a run of the one piece of a gap is taken
+
+level_on : (from from' s : List Step) → behind from' ≡ behind from → passed from ≡ passed s → passed from' ≡ passed s
+level_on from from' s e level = sym (passed-behind from') ∙ ap passed e ∙ passed-behind from ∙ level
+
+no_second : (side : Bool) (x : List Cell) → follow_gap side x [] ≡ passes x
+no_second side x = go (goes_first side x [])
+  where
+    go : (t : Bool) → cond t (passes x ++ []) ([] ++ passes x) ≡ passes x
+    go true = append-nil (passes x)
+    go false = refl
+
+no_first : (side : Bool) (y : List Cell) → follow_gap side [] y ≡ inserts y
+no_first side y = go (goes_first side [] y)
+  where
+    go : (t : Bool) → cond t ([] ++ inserts y) (inserts y ++ []) ≡ inserts y
+    go true = refl
+    go false = append-nil (inserts y)
+
+-- where only the first inserts, its piece is kept
+gap_of_first : (side : Bool) (sa sb : List Step) → piece sb ≡ [] → passed sa ≡ passed sb → followed side sa sb ≡ passes (piece sa) ++ followed side (behind sa) (behind sb)
+gap_of_first side sa sb e level =
+    followed_gap side sa sb level
+    ∙ ap (λ t. t ++ followed side (behind sa) (behind sb)) (ap (follow_gap side (piece sa)) e ∙ no_second side (piece sa))
+
+gap_of_second : (side : Bool) (sa sb : List Step) → piece sa ≡ [] → passed sa ≡ passed sb → followed side sa sb ≡ inserts (piece sb) ++ followed side (behind sa) (behind sb)
+gap_of_second side sa sb e level =
+    followed_gap side sa sb level
+    ∙ ap (λ t. t ++ followed side (behind sa) (behind sb)) (ap (λ x. follow_gap side x (piece sb)) e ∙ no_first side (piece sb))
+
+pub kept_run : (side : Bool) (out out' sa sa' sb : List Step) → Moves passes out sa out' sa' → piece sb ≡ [] → passed sa ≡ passed sb → out' ++ followed side sa' sb ≡ out ++ followed side sa sb
+kept_run side out out' sa sa' sb m e level =
+    ap (λ t. out' ++ t) (gap_of_first side sa' sb e (level_on sa sa' sb m.behind level) ∙ ap (λ s. passes (piece sa') ++ followed side s (behind sb)) m.behind)
+    ∙ sym (append_assoc out' (passes (piece sa')) (followed side (behind sa) (behind sb)))
+    ∙ ap (λ s. s ++ followed side (behind sa) (behind sb)) m.same
+    ∙ append_assoc out (passes (piece sa)) (followed side (behind sa) (behind sb))
+    ∙ ap (λ t. out ++ t) (sym (gap_of_first side sa sb e level))
+
+pub inserted_run : (side : Bool) (out out' sa sb sb' : List Step) → Moves inserts out sb out' sb' → piece sa ≡ [] → passed sa ≡ passed sb → out' ++ followed side sa sb' ≡ out ++ followed side sa sb
+inserted_run side out out' sa sb sb' m e level =
+    ap (λ t. out' ++ t) (gap_of_second side sa sb' e (sym (level_on sb sb' sa m.behind (sym level))) ∙ ap (λ s. inserts (piece sb') ++ followed side (behind sa) s) m.behind)
+    ∙ sym (append_assoc out' (inserts (piece sb')) (followed side (behind sa) (behind sb)))
+    ∙ ap (λ s. s ++ followed side (behind sa) (behind sb)) m.same
+    ∙ append_assoc out (inserts (piece sb)) (followed side (behind sa) (behind sb))
+    ∙ ap (λ t. out ++ t) (sym (gap_of_second side sa sb e level))

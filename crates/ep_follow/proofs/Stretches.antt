@@ -7,7 +7,7 @@ use Rattle.ep_cs.specs.Edit.{Fate, Step}
 use Rattle.ep_cs.specs.Edit.Fate.{Drop, Keep}
 use Rattle.ep_cs.specs.Edit.Step.{Pass}
 use Rattle.ep_cs.specs.Steps.{passed}
-use Rattle.ep_attr.proofs.Maps.{none-rest}
+use Rattle.ep_attr.proofs.Maps.{none-rest, rest-none}
 use Rattle.ep_cs.specs.Draft.{Draft, keeping, inserted_by}
 use Rattle.ep_cs.specs.Runs.{inserted, passed as run_passed, run_steps, steps_of, rest_kept}
 use Rattle.ep_cs.specs.Change.{newlines}
@@ -272,3 +272,19 @@ pub kept_as_is : (k : Kind) (d : Draft) (n l : ℕ) (m : AttrMap) → (k ≡ kin
 kept_as_is kind.Keep d n l m other = ap (keeping d n l) (sym (none-rest m))
 kept_as_is kind.Drop d n l m other = absurd (other refl)
 kept_as_is kind.Insert d n l m other = ap (keeping d n l) (sym (none-rest m))
+
+-- what both keep, where the second has no attributes
+pub kept_bare : (j k : Kind) (d : Draft) (n l : ℕ) (a m : AttrMap) → (j ≡ kind.Drop → ⊥) → (k ≡ kind.Drop → ⊥) → m ≡ none → keeping d n l none ≡ followed_run d n l (fate_of j a) (fate_of k m)
+kept_bare j k d n l a m first second e = go j k first second
+  where
+    kept : keeping d n l none ≡ keeping d n l (rest a m)
+    kept = ap (keeping d n l) (sym (ap (rest a) e ∙ rest-none a))
+
+    go : (j k : Kind) → (j ≡ kind.Drop → ⊥) → (k ≡ kind.Drop → ⊥) → keeping d n l none ≡ followed_run d n l (fate_of j a) (fate_of k m)
+    go kind.Drop k first second = absurd (first refl)
+    go kind.Keep kind.Drop first second = absurd (second refl)
+    go kind.Keep kind.Keep first second = kept
+    go kind.Keep kind.Insert first second = kept
+    go kind.Insert kind.Drop first second = absurd (second refl)
+    go kind.Insert kind.Keep first second = kept
+    go kind.Insert kind.Insert first second = kept

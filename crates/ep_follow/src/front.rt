@@ -34,13 +34,6 @@ pub fn inserts(cursor: &Cursor<'_>) -> bool
     }
 }
 
-/// Whether one of two changes inserts before the next place.
-pub fn at_gap(a: &Cursor<'_>, b: &Cursor<'_>) -> bool
-    ensures { result ≡ (begins_with_insert a.now.ops || begins_with_insert b.now.ops) }
-{
-    inserts(a) || inserts(b)
-}
-
 /// What the order at a gap sees of a piece.
 #[derive(Clone, Copy)]
 struct Sign {

@@ -10,14 +10,12 @@ ghost use Rattle.ep_follow.specs.Gaps.{followed, piece, behind, begins_with_inse
 ghost use Rattle.ep_follow.specs.Following.{UnderWay};
 
 use crate::front::{goes_first, inserts};
-use ep_attr::AttrMap;
 use ep_cs::{Builder, First};
 use ep_cursor::Cursor;
 use ep_units::NoMemory;
-use std::alloc::Global;
 
 /// Keeps a run that the first change inserts.
-fn keep_run(alloc: Global, out: &mut Builder, a: &mut Cursor<'_>) -> Result<(), NoMemory>
+pub fn keep_run(out: &mut Builder, a: &mut Cursor<'_>) -> Result<(), NoMemory>
     requires inserts { begins_with_insert a.old.ops ≡ true }
     requires go { (b : Left) × (made : Text) × UnderWay made out.old a.old b }
     ensures moves { OnOk result (Moves passes out.old.steps (steps_left a.old) out.new.steps (steps_left a.new)) }
@@ -27,26 +25,26 @@ fn keep_run(alloc: Global, out: &mut Builder, a: &mut Cursor<'_>) -> Result<(), 
     let Some(head) = a.head() else {
         return Ok(());
     };
-    out.keep_owned(head.units, head.lines, AttrMap::none(alloc))?;
+    out.keep_bare(head.units, head.lines)?;
     a.advance(head.units, head.lines);
     Ok(())
 }
 
 /// Keeps the piece that the first change inserts.
-fn keep_piece(alloc: Global, out: &mut Builder, a: &mut Cursor<'_>) -> Result<(), NoMemory>
+fn keep_piece(out: &mut Builder, a: &mut Cursor<'_>) -> Result<(), NoMemory>
     requires { (b : Left) × (made : Text) × UnderWay made out.old a.old b }
     ensures out { OnOk result (out.new.steps ≡ out.old.steps ++ passes (piece (steps_left a.old))) }
     ensures behind { OnOk result (steps_left a.new ≡ behind (steps_left a.old)) }
     ensures go { OnOk result ((b : Left) (made : Text) → UnderWay made out.old a.old b → UnderWay made out.new a.new b) }
 {
     'runs: while inserts(a) {
-        keep_run(alloc, out, a)?;
+        keep_run(out, a)?;
     }
     Ok(())
 }
 
 /// Inserts a run of the second change.
-fn insert_run(out: &mut Builder, b: &mut Cursor<'_>) -> Result<(), NoMemory>
+pub fn insert_run(out: &mut Builder, b: &mut Cursor<'_>) -> Result<(), NoMemory>
     requires inserts { begins_with_insert b.old.ops ≡ true }
     requires go { (a : Left) × (made : Text) × UnderWay made out.old a b.old }
     ensures moves { OnOk result (Moves inserts out.old.steps (steps_left b.old) out.new.steps (steps_left b.new)) }
@@ -76,7 +74,6 @@ fn insert_piece(out: &mut Builder, b: &mut Cursor<'_>) -> Result<(), NoMemory>
 
 /// Takes both pieces of the gap that comes next, in their order.
 pub fn gap(
-    alloc: Global,
     out: &mut Builder,
     a: &mut Cursor<'_>,
     b: &mut Cursor<'_>,
@@ -89,10 +86,10 @@ pub fn gap(
     ensures go { OnOk result ((made : Text) → UnderWay made out.old a.old b.old → UnderWay made out.new a.new b.new) }
 {
     if goes_first(a, b, first) {
-        keep_piece(alloc, out, a)?;
+        keep_piece(out, a)?;
         insert_piece(out, b)
     } else {
         insert_piece(out, b)?;
-        keep_piece(alloc, out, a)
+        keep_piece(out, a)
     }
 }

@@ -33,6 +33,9 @@ fn write(
         (Kind::Drop, _) => Ok(()),
         (_, Kind::Drop) => out.drop_units(part.units, part.lines),
         (_, _) => {
+            if later.attrs.is_none() {
+                return out.keep_bare(part.units, part.lines);
+            }
             let attrs = follow_change(alloc, head.attrs, later.attrs)?;
             out.keep_owned(part.units, part.lines, attrs)
         }
