@@ -1,12 +1,15 @@
 //! Who takes part, by name.
 
-ghost use Rattle.std.specs.Prelude.{◌≡◌, [], if◌then◌else◌, ◌≢◌, Option, Some, None, OnOk, IfOk, IfErr, position};
+ghost use Rattle.std.specs.Prelude.{◌≡◌, true, [], if◌then◌else◌, ◌≢◌, Option, Some, None, OnOk, IfOk, IfErr, position};
 ghost use Rattle.std.specs.Option.{option_map};
 ghost use Rattle.ep_units.specs.Text.{Text, text_eq};
+ghost use Rattle.ep_history.specs.Kept.{KeptClient};
 ghost use Rattle.ep_world.specs.Actors.{found, kept_cut_off, is_a_client, is_a_guest, IsNoClient, IsSame, IsWithout, PutsActor, Steps, StepsAt};
+ghost use Rattle.ep_world.specs.Events.{is_local_text};
 ghost use Rattle.ep_world.specs.Failing.{IsFailure};
-ghost use Rattle.ep_world.specs.Members.{HearsDown};
+ghost use Rattle.ep_world.specs.Members.{HearsDown, SubmitsUp};
 ghost use Rattle.ep_world.specs.Pushing.{Tells};
+ghost use Rattle.ep_world.specs.Sending.{EditsView};
 ghost use Rattle.ep_world.specs.declared.member.Member.{Member as AMember};
 ghost use Rattle.ep_world.specs.declared.actors.Actor.TheVariants as actor;
 ghost use Rattle.ep_world.specs.declared.bad.WorldBad.TheVariants as unknown;
@@ -14,8 +17,10 @@ ghost use Rattle.ep_world.specs.declared.bad.WorldBad.TheVariants as unknown;
 use crate::bad::WorldBad;
 use crate::conn::Conn;
 use crate::member::Member;
+use crate::sending::edit_view;
 use crate::telling::{Pushed, tell_member};
-use ep_event::Shown;
+use ep_event::{Local, Shown};
+use ep_invert::SpliceBad;
 use ep_outside::Disk;
 use ep_pad::PadMachine;
 use ep_units::{NoMemory, Units};
@@ -159,6 +164,36 @@ impl Actors {
         self.slots[place].hear(alloc, name)
     }
 
+    /// The client of a name sends what it has to send, if there is something.
+    pub(crate) fn submit(&mut self, alloc: Global, name: Units) -> Result<Shown, WorldBad>
+        ensures sent { IfOk result (λ s. (m : AMember) × ((m' : AMember) × Steps self.old name m m' self.new × SubmitsUp name m m' s)) }
+        ensures unknown { IfErr result (λ bad. bad ≡ unknown.Unknown → IsNoClient (found self.old name) × IsSame self.old self.new) }
+        ensures failed { IfErr result (λ bad. bad ≢ unknown.Unknown → bad ≡ unknown.NoMemory) }
+    {
+        let Some(place) = self.place(&name) else {
+            return Err(WorldBad::Unknown);
+        };
+        self.slots[place].submit(alloc, name)
+    }
+
+    /// The client of a name makes a local edit of what it sees, or is told why that is none.
+    pub(crate) fn edit(
+        &mut self,
+        alloc: Global,
+        name: &Units,
+        edit: &Local,
+    ) -> Result<Option<SpliceBad>, WorldBad>
+        requires { is_local_text edit.now ≡ true }
+        ensures edited { IfOk result (λ bad. (m : AMember) × ((k : KeptClient) × Steps self.old name.now m (record m { client = k }) self.new × EditsView edit.now m.client k bad)) }
+        ensures unknown { IfErr result (λ bad. bad ≡ unknown.Unknown → IsNoClient (found self.old name.now) × IsSame self.old self.new) }
+        ensures failed { IfErr result (λ bad. bad ≢ unknown.Unknown → bad ≡ unknown.NoMemory) }
+    {
+        let Some(place) = self.place(name) else {
+            return Err(WorldBad::Unknown);
+        };
+        self.slots[place].edit(alloc, edit)
+    }
+
     /// The client of a name is told the next, if it can be told anything.
     pub(crate) fn push<D: Disk>(
         &mut self,
@@ -214,6 +249,29 @@ impl Slot {
     {
         match &mut self.actor {
             Some(Actor::Named(member)) => Ok(member.hear(alloc, name)?),
+            _ => Err(WorldBad::Unknown),
+        }
+    }
+
+    fn submit(&mut self, alloc: Global, name: Units) -> Result<Shown, WorldBad>
+        ensures sent { IfOk result (λ s. (m : AMember) × ((m' : AMember) × StepsAt self.old m m' self.new × SubmitsUp name m m' s)) }
+        ensures unknown { IfErr result (λ bad. bad ≡ unknown.Unknown → IsNoClient self.old.actor × (self.new ≡ self.old)) }
+        ensures failed { IfErr result (λ bad. bad ≢ unknown.Unknown → bad ≡ unknown.NoMemory) }
+    {
+        match &mut self.actor {
+            Some(Actor::Named(member)) => Ok(member.submit(alloc, name)?),
+            _ => Err(WorldBad::Unknown),
+        }
+    }
+
+    fn edit(&mut self, alloc: Global, edit: &Local) -> Result<Option<SpliceBad>, WorldBad>
+        requires { is_local_text edit.now ≡ true }
+        ensures edited { IfOk result (λ bad. (m : AMember) × ((k : KeptClient) × StepsAt self.old m (record m { client = k }) self.new × EditsView edit.now m.client k bad)) }
+        ensures unknown { IfErr result (λ bad. bad ≡ unknown.Unknown → IsNoClient self.old.actor × (self.new ≡ self.old)) }
+        ensures failed { IfErr result (λ bad. bad ≢ unknown.Unknown → bad ≡ unknown.NoMemory) }
+    {
+        match &mut self.actor {
+            Some(Actor::Named(member)) => Ok(edit_view(alloc, &mut member.client, edit)?),
             _ => Err(WorldBad::Unknown),
         }
     }

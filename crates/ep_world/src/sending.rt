@@ -38,9 +38,7 @@ impl<D: Crash> World<D> {
         if !is_text(edit) {
             return Err(WorldBad::NoText);
         }
-        let mut member = self.actors.member(self.alloc, &name)?;
-        let bad = edit_view(self.alloc, &mut member.client, edit)?;
-        self.actors.seat(self.alloc, &name, member)?;
+        let bad = self.actors.edit(self.alloc, &name, edit)?;
         Ok(show_edited(verb_of(edit), name, bad))
     }
 
@@ -48,10 +46,7 @@ impl<D: Crash> World<D> {
     pub(crate) fn submit(&mut self, name: Units) -> Result<Shown, WorldBad>
         ensures { (now : ℕ) → Plays D.told D.failures D.stops_alone self.old now (event.Submit name) result self.new }
     {
-        let mut member = self.actors.member(self.alloc, &name)?;
-        let shown = member.submit(self.alloc, name.copy(self.alloc)?)?;
-        self.actors.seat(self.alloc, &name, member)?;
-        Ok(shown)
+        Ok(self.actors.submit(self.alloc, name)?)
     }
 
     /// A guest sends a change, or a text that spells none.
@@ -103,7 +98,7 @@ fn message(base: u64, change: Result<Change, ReadBad>) -> Sent
 
 /// A client makes a local edit of what it sees, or is told why that is none. By the rules a client refuses no change that
 /// fits its view; if it did, that would be answered as want of memory.
-fn edit_view(
+pub(crate) fn edit_view(
     alloc: Global,
     client: &mut Client,
     edit: &Local,
