@@ -32,6 +32,14 @@ other-name a b h = go (decide-name a b)
     go (inl z) = absurd (h z.1)
     go (inr z) = z.0
 
+-- a name that is the same
+pub named-so : (a b : Name) → a ≡ b → text_eq a b ≡ true
+named-so a b e = go (decide-name a b)
+  where
+    go : ((text_eq a b ≡ true) × (a ≡ b)) ⊎ ((text_eq a b ≡ false) × (a ≡ b → ⊥)) → text_eq a b ≡ true
+    go (inl z) = z.0
+    go (inr z) = absurd (z.1 e)
+
 -- the first of two places decides, and only one of them has the name
 apart : (a n q : Name) → text_eq n a ≡ false → text_eq q a ≡ true → text_eq q n ≡ false
 apart a n q e h = go (decide-name q n)

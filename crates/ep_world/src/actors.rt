@@ -221,19 +221,22 @@ impl Actors {
 }
 
 impl Slot {
-    /// Whether it is this name's. Most names of others have another length or another last unit.
+    /// Whether it is this name's: names mostly begin alike, so it is compared from its end.
     fn is_called(&self, name: &Units) -> bool
         ensures { result ≡ text_eq name.now self.now.name }
     {
         let (own, sought) = (self.name.as_slice(), name.as_slice());
-        let units = own.len();
-        if units != sought.len() {
+        if own.len() != sought.len() {
             return false;
         }
-        if units > 0 && own[units - 1] != sought[units - 1] {
-            return false;
+        let mut left = own.len();
+        'units: while left > 0 {
+            left -= 1;
+            if own[left] != sought[left] {
+                return false;
+            }
         }
-        *name == self.name
+        true
     }
 
     fn put(&mut self, actor: Actor)
