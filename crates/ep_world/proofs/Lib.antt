@@ -16,5 +16,4 @@ pub mod Places
 pub mod Turns
 pub mod Sends
 pub mod Hears
-pub mod Locals
 pub mod Lates

@@ -38,9 +38,10 @@ use Rattle.ep_world.specs.declared.member.Member.{Member}
 use Rattle.ep_world.specs.declared.world.World.{World}
 use Rattle.ep_world.specs.Actors.{IsSame, IsWithout, PutsActor, actor_of, found, member_of}
 use Rattle.ep_world.specs.Conns.{KeptConn, conn_of, kept_sends, sent_of}
-use Rattle.ep_world.specs.Events.{edit_at, edit_if, event_at, happened, is_client, is_guest, is_local_text, kept_happened, local_bad, local_edit, of_client, view_of}
+use Rattle.ep_local.specs.Local.{is_local_text, local_bad, local_edit}
+use Rattle.ep_local.specs.Makes.{EditsView}
+use Rattle.ep_world.specs.Events.{edit_at, edit_if, event_at, happened, is_client, is_guest, kept_happened, of_client, view_of}
 use Rattle.ep_world.specs.Members.{SubmitsOf, SubmitsUp}
-use Rattle.ep_world.specs.Sending.{EditsView}
 use Rattle.ep_world.specs.Shows.{shows, shows_edit, shows_edited, shows_sent, shows_submit, shows_submitted, verb_of}
 use Rattle.ep_world.specs.Standing.{Comes, IsAt, IsPlayed, IsRun, StandsFor}
 use Rattle.ep_world.specs.Standing.IsPlayed.{IsEvent}

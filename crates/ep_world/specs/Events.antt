@@ -1,13 +1,7 @@
 -- What an event of a script asks for, as an event of the world.
 use Rattle.std.specs.Prelude.{ℕ, ◌+◌, Bool, true, false, not, [], ◌∷◌, length, Option, Some, None}
 use Rattle.ep_units.specs.Text.{Text, is_well_formed}
-use Rattle.ep_attr.specs.AttrMap.{of_pairs}
 use Rattle.ep_cs.specs.Doc.{Doc}
-use Rattle.ep_cs.specs.Edit.{Edit}
-use Rattle.ep_cs.specs.Plain.{plain}
-use Rattle.ep_cs.specs.Splice.{splice}
-use Rattle.ep_invert.specs.Paint.{paint}
-use Rattle.ep_invert.specs.Refusal.{splice_bad}
 use Rattle.ep_invert.specs.declared.bad.SpliceBad.{SpliceBad}
 use Rattle.ep_history.specs.Client.{view}
 use Rattle.ep_history.specs.Pad.{PadState, birth_at}
@@ -16,7 +10,7 @@ use Rattle.ep_schedule.specs.World.Actor.{Nobody, Guest, Named}
 use Rattle.ep_schedule.specs.World.Event.{Create, SetText, Delete, Login, Visit, Edits, Submit, Inject, Take, Late, Push, Hear, Lose, Resume, Stop}
 use Rattle.ep_schedule.specs.Kepts.{Kepts, kept_happens}
 use Rattle.ep_event.specs.declared.event.Local.{Local}
-use Rattle.ep_event.specs.declared.event.Local.TheVariants as local
+use Rattle.ep_local.specs.Local.{is_local_text, local_bad, local_edit}
 use Rattle.ep_event.specs.declared.event.StopAt.{StopAt}
 use Rattle.ep_event.specs.declared.event.Event.{Event as Told}
 use Rattle.ep_event.specs.declared.event.Event.TheVariants as told
@@ -30,24 +24,6 @@ of_client d f (Named m) = f m
 -- what a client sees
 abbrev pub view_of : PadState → Member → Doc
 view_of pad m = view (birth_at pad m.birth) m.client
-
--- ---- local edits
-
--- the edit of a document that is asked for
-abbrev pub local_edit : Local → Doc → Edit
-local_edit (local.Insert at text) doc = splice (length doc) at 0 (plain text)
-local_edit (local.Delete at units) doc = splice (length doc) at units []
-local_edit (local.Format at units key value) doc = paint (length doc) at units (of_pairs ((key, value) ∷ []))
-
--- where the stretch that it alters ends
-abbrev pub local_end : Local → ℕ
-local_end (local.Insert at text) = at + 0
-local_end (local.Delete at units) = at + units
-local_end (local.Format at units key value) = at + units
-
--- why it is none of a document
-abbrev pub local_bad : Local → Doc → Option SpliceBad
-local_bad e doc = splice_bad (local_edit e doc) (local_end e) doc
 
 -- ---- events
 
@@ -130,12 +106,6 @@ is_known w (told.Resume n) = is_client (w.actors n)
 is_known w (told.Stop at) = is_stoppable w at
 
 -- ---- its texts
-
--- a text that is inserted is one
-abbrev pub is_local_text : Local → Bool
-is_local_text (local.Insert at text) = is_well_formed text
-is_local_text (local.Delete at units) = true
-is_local_text (local.Format at units key value) = true
 
 -- what an event brings is a text
 abbrev pub has_text : Told → Bool

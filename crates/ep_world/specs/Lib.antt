@@ -6,7 +6,6 @@ pub mod Shows
 pub mod Journal
 pub mod Standing
 pub mod Taking
-pub mod Sending
 pub mod Telling
 pub mod Pushing
 pub mod Members

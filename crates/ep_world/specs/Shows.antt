@@ -37,7 +37,8 @@ use Rattle.ep_event.specs.declared.shown.Verb.TheVariants as verb
 use Rattle.ep_event.specs.declared.shown.Shown.{Shown}
 use Rattle.ep_event.specs.declared.shown.Shown.TheVariants as shown
 use Rattle.ep_world.specs.Conns.{why_unread, word_of}
-use Rattle.ep_world.specs.Events.{of_client, view_of, local_bad, event_at, happened}
+use Rattle.ep_local.specs.Local.{local_bad}
+use Rattle.ep_world.specs.Events.{of_client, view_of, event_at, happened}
 
 -- ---- refusals
 

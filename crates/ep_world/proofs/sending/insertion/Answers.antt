@@ -1,7 +1,0 @@
-use Rattle.ep_world.proofs.Locals.{is-insertion}
-use Rattle.ep_world.proofs.sending.insertion.Goals as goal
-
-pub returns-in-Some : goal.returns-in-Some
-returns-in-Some c =
-    let s = c.splice-in-Some in
-    is-insertion c.args.doc.now c.args.at c.args.text.now c.none.result s.result c.none.ensures s.ensures.change s.ensures.fits s.ensures.refused
