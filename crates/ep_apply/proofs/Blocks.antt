@@ -70,9 +70,6 @@ clones_alike f (n ∷ ns) (m ∷ ms) h = ap₂ (λ cs ds. f cs ++ ds) h.0 (clone
 pub shared : {A : Type 0} (f : A → List Cell) (old new more : List (Arc A Global)) → AppendsClones (λ n m. arc_value m ≡ arc_value n) old new more → node_cells f new ≡ node_cells f old ++ node_cells f more
 shared f old new more h = ap (node_cells f) h.1 ∙ nodes-append f old h.0 ∙ ap (λ ds. node_cells f old ++ ds) (clones_alike f more h.0 h.2)
 
-pub copied : (old new more ns : List (Arc (List Cell) Global)) → old ≡ [] → AppendsClones (λ n m. arc_value m ≡ arc_value n) old new more → more ≡ ns → all_cells new ≡ all_cells ns
-copied old new more ns none h e = shared its_own old new more h ∙ (λ i. all_cells (none i) ++ all_cells (e i))
-
 -- nodes that are added to the last ones of all that is written
 pub added_last : (all self base new later old rest : List Cell) → self ++ rest ≡ all → base ++ old ≡ self → new ++ later ≡ old ++ rest → (base ++ new) ++ later ≡ all
 added_last all self base new later old rest whole told more =

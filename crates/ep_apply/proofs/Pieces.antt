@@ -58,12 +58,6 @@ not_over units left all old h k l is e = omega (arith, h, k, l, ap length is, ap
 pub enough : (units left : ℕ) (all old : List Cell) → units ≤ length all → left ≤ units → old ≡ drop (units - left) all → left ≤ length old
 enough units left all old h k is = omega (arith, h, k, ap length is, length-drop (units - left) all)
 
--- a text that is added piece by piece
-pub piece_added : (m : AttrMap) (us : Text) (at n : ℕ) (start old new : List Cell) → old ≡ start ++ cells m (take at us) → new ≡ old ++ cells m (take n (drop at us)) → new ≡ start ++ cells m (take (at + n) us)
-piece_added m us at n start old new o e =
-    e ∙ ap (λ cs. cs ++ cells m (take n (drop at us))) o ∙ append_assoc start (cells m (take at us)) (cells m (take n (drop at us)))
-    ∙ ap (λ cs. start ++ cs) (sym (cells-cut m (take at us) (take n (drop at us))) ∙ ap (cells m) (sym (take-add at n us)))
-
 -- ---- loops over pieces
 
 -- all but so many of these cells are moved

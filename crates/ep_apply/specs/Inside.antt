@@ -3,11 +3,11 @@ use Rattle.std.specs.Prelude.{◌≡◌, ◌<◌, ◌^◌, List, ◌++◌, lengt
 use Rattle.ep_units.specs.Text.{Text}
 use Rattle.ep_cs.specs.Doc.{Cell, text_of}
 use Rattle.ep_apply.specs.Blocks.{all_cells, IsNode}
+use Rattle.ep_apply.specs.Bodies.{body_cells}
 use Rattle.ep_apply.specs.Documents.{IsDocument}
 use Rattle.ep_apply.specs.declared.block.Block.TheInside as block
 use Rattle.ep_apply.specs.declared.groups.Groups.TheInside as groups
 use Rattle.ep_apply.specs.declared.ahead.Ahead.TheInside as ahead
-use Rattle.ep_apply.specs.declared.body.Body.TheInside as body
 use Rattle.ep_apply.specs.declared.stack.Stack.TheInside as stack
 use Rattle.ep_apply.specs.declared.pile.Pile.TheInside as pile
 use Rattle.ep_apply.specs.declared.reading.Reading.TheInside as reading
@@ -46,14 +46,10 @@ text_left t = t.here.now ++ text_of t.ahead
 abbrev pub written : writer.Inside → List Cell
 written w = w.pile ++ w.open
 
--- the cells of groups that are in no page and of the pages behind them
-abbrev pub body_of : body.Inside → List Cell
-body_of b = all_cells b.groups.items ++ all_cells b.pages.items
-
 abbrev pub doc_of : doc.Inside → List Cell
-doc_of d = d.body
+doc_of d = body_cells d.body
 
 pub record IsDoc (d : doc.Inside) : Type 0 where
-  pub document : IsDocument (d.body)
-  pub units : d.units ≡ length (d.body)
-  pub short : length (d.body) < 2 ^ 32
+  pub document : IsDocument (body_cells d.body)
+  pub units : d.units ≡ length (body_cells d.body)
+  pub short : length (body_cells d.body) < 2 ^ 32

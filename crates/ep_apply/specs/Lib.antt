@@ -1,4 +1,5 @@
 pub mod Blocks
+pub mod Bodies
 pub mod Makes
 pub mod Inside
 pub mod PairEnds

@@ -38,11 +38,15 @@ impl<'a> Model for Ahead<'a> {
 }
 
 impl<'a> Ahead<'a> {
-    pub fn of(groups: &'a [Arc<Group>], pages: &'a [Arc<Page>]) -> Ahead<'a>
-        ensures { result ≡ all_cells groups.now ++ all_cells pages.now }
+    pub fn of(
+        blocks: &'a [Arc<Block>],
+        groups: &'a [Arc<Group>],
+        pages: &'a [Arc<Page>],
+    ) -> Ahead<'a>
+        ensures { result ≡ all_cells blocks.now ++ all_cells groups.now ++ all_cells pages.now }
     {
         Ahead {
-            blocks: &[],
+            blocks,
             groups: Groups::of(groups, pages),
         }
     }

@@ -12,7 +12,6 @@ use crate::reading::Reading;
 use crate::writer::Writer;
 use ep_attr::AttrMap;
 use ep_cs::{Change, Kind, Op};
-use ep_parts::Seam;
 use ep_units::NoMemory;
 use std::alloc::Global;
 
@@ -35,7 +34,7 @@ fn apply_op(
             rest.skip(op.units);
             Ok(())
         }
-        Kind::Insert => out.push(text, &op.attrs, Seam::Joined),
+        Kind::Insert => out.push(text, &op.attrs),
     }
 }
 

@@ -1,66 +1,67 @@
 //! What a document is kept in.
 
 ghost use Rattle.std.specs.Prelude.{◌≡◌, [], IfOk};
+ghost use Rattle.ep_apply.specs.Blocks.{node_cells};
+ghost use Rattle.ep_apply.specs.Bodies.{body_cells};
 
 use crate::ahead::Ahead;
-use crate::node::{Group, Page};
+use crate::block::Block;
+use crate::node::{Group, Node, Page};
 use ep_units::NoMemory;
 use std::alloc::Global;
-use std::marker::Model;
 use std::sync::Arc;
 
-/// All of a document: groups that are in no page, as a short one has, and the pages behind them.
+/// All of a document: blocks, if a group could have them; else groups, if a page could have them; else pages.
 #[derive(Drop)]
-pub struct Body {
-    pub(crate) groups: Vec<Arc<Group>>,
-    pub(crate) pages: Vec<Arc<Page>>,
+pub enum Body {
+    Blocks(Vec<Arc<Block>>),
+    Groups(Vec<Arc<Group>>),
+    Pages(Vec<Arc<Page>>),
 }
 
-impl Model for Body {
-    ghost use Rattle.std.specs.Prelude.{List};
-    ghost use Rattle.std.specs.Coded.{coded_list};
-    ghost use Rattle.ep_cs.specs.Doc.{Cell};
-    ghost use Rattle.ep_cs.specs.Codes.{coded_cell};
-
-    ghost Value = { List Cell };
-
-    ghost coded = { coded_list coded_cell };
-
-    ghost use Rattle.ep_apply.specs.Inside.{body_of};
-
-    ghost view = { body_of };
+/// The same nodes again, which are shared.
+fn share<T: Node>(alloc: Global, nodes: &[Arc<T>]) -> Result<Vec<Arc<T>>, NoMemory>
+    ensures { IfOk result (λ all. node_cells T.cells all.items ≡ node_cells T.cells nodes.now) }
+{
+    let mut all = Vec::with_capacity(alloc, nodes.len())?;
+    all.extend_with_clones(nodes)?;
+    Ok(all)
 }
 
 impl Body {
     pub fn empty(alloc: Global) -> Body
-        ensures { result ≡ [] }
+        ensures { body_cells result ≡ [] }
     {
-        Body {
-            groups: Vec::new(alloc),
-            pages: Vec::new(alloc),
-        }
+        Body::Blocks(Vec::new(alloc))
     }
 
     /// All of it, to be passed from the first to the last.
     pub fn ahead(&self) -> Ahead<'_>
-        ensures { result ≡ self.now }
+        ensures { result ≡ body_cells self.now }
     {
-        Ahead::of(&self.groups, &self.pages)
+        match self {
+            Body::Blocks(blocks) => Ahead::of(blocks, &[], &[]),
+            Body::Groups(groups) => Ahead::of(&[], groups, &[]),
+            Body::Pages(pages) => Ahead::of(&[], &[], pages),
+        }
     }
 
     /// How many pages it has.
     pub fn pages(&self) -> usize {
-        self.pages.len()
+        match self {
+            Body::Blocks(_) | Body::Groups(_) => 0,
+            Body::Pages(pages) => pages.len(),
+        }
     }
 
-    /// The same again, which shares all groups and pages.
+    /// The same again, which shares all blocks, groups or pages.
     pub fn copy(&self, alloc: Global) -> Result<Body, NoMemory>
-        ensures { IfOk result (λ b. b ≡ self.now) }
+        ensures { IfOk result (λ b. body_cells b ≡ body_cells self.now) }
     {
-        let mut groups = Vec::with_capacity(alloc, self.groups.len())?;
-        let mut pages = Vec::with_capacity(alloc, self.pages.len())?;
-        groups.extend_with_clones(&self.groups)?;
-        pages.extend_with_clones(&self.pages)?;
-        Ok(Body { groups, pages })
+        match self {
+            Body::Blocks(blocks) => Ok(Body::Blocks(share(alloc, blocks)?)),
+            Body::Groups(groups) => Ok(Body::Groups(share(alloc, groups)?)),
+            Body::Pages(pages) => Ok(Body::Pages(share(alloc, pages)?)),
+        }
     }
 }

@@ -11,15 +11,15 @@ use crate::reading::Reading;
 use crate::writer::Writer;
 use ep_attr::AttrMap;
 use ep_cs::{Builder, Change};
-use ep_parts::{Seam, Within};
+use ep_parts::Within;
 use ep_units::{NoMemory, Units};
 use std::alloc::Global;
 use std::marker::Model;
 
 /// Attributed text: no half of a pair stands alone, the halves of a pair have equal maps, and no map has an empty value.
 ///
-/// It stands in pages of at most 9 groups of at most 16 blocks of at most 512 UTF-16 units; one that is short has groups
-/// and no page. Documents share pages, groups and blocks.
+/// It stands in pages of at most 9 groups of at most 16 blocks of at most 512 UTF-16 units; one that is short stands in groups
+/// or blocks. Documents share pages, groups and blocks.
 #[derive(Drop)]
 pub struct Doc {
     pub(crate) body: Body,
@@ -59,7 +59,7 @@ impl Doc {
         ensures { IfOk result (λ d. d ≡ plain (10 ∷ [])) }
     {
         let mut out = Writer::with_room(alloc, 0)?;
-        out.push(&[10], &AttrMap::none(alloc), Seam::Joined)?;
+        out.push(&[10], &AttrMap::none(alloc))?;
         Ok(Doc {
             body: out.finish()?,
             units: 1,

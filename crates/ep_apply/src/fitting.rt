@@ -1,9 +1,9 @@
 //! Whether a change fits a document.
 
-ghost use Rattle.std.specs.Prelude.{◌≡◌, ◌↔◌, ◌≤◌, length, IsOk};
+ghost use Rattle.std.specs.Prelude.{◌≡◌, ◌↔◌, ◌≤◌, length, take, drop, IsOk};
 ghost use Rattle.ep_units.specs.Text.{Text};
 ghost use Rattle.ep_cs.specs.Fits.{Fits};
-ghost use Rattle.ep_cs.specs.Runs.{all_passed};
+ghost use Rattle.ep_cs.specs.Runs.{all_passed, passed};
 ghost use Rattle.ep_apply.specs.Blocks.{Sees};
 ghost use Rattle.ep_cs.specs.Fitting.{answer, first_untrue, fit_bad, is_true};
 ghost use Rattle.ep_apply.specs.PairEnds.{cut_at, first_end, first_of, runs_bad};
@@ -20,6 +20,18 @@ fn is_true(op: &Op, seen: Seen) -> bool
     match op.kind {
         Kind::Insert => true,
         Kind::Keep | Kind::Drop => seen.lines == op.lines && (op.lines == 0 || seen.tail == 0),
+    }
+}
+
+/// Passes what an operation passes, which is nothing where it inserts.
+fn pass_op(op: &Op, rest: &mut Passing<'_>) -> Seen
+    requires { passed op.now.kind op.now.units ≤ length rest.old }
+    ensures seen { Sees result (take (passed op.now.kind op.now.units) rest.old) }
+    ensures rest { rest.new ≡ drop (passed op.now.kind op.now.units) rest.old }
+{
+    match op.kind {
+        Kind::Insert => Seen::nothing(),
+        Kind::Keep | Kind::Drop => rest.pass(op.units),
     }
 }
 
@@ -44,7 +56,7 @@ fn follow_runs(ops: &[Op], rest: &mut Passing<'_>, units: u32) -> Result<(), Fit
     let mut cut = None;
     for i in 0..ops.len() {
         let op = &ops[i];
-        let seen = rest.pass(op.passed());
+        let seen = pass_op(op, rest);
         if !is_true(op, seen) {
             return Err(FitBad::Newlines(i as u64));
         }

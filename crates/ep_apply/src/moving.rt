@@ -6,17 +6,12 @@ ghost use Rattle.ep_cs.specs.Doc.{painted};
 use crate::reading::Reading;
 use crate::writer::Writer;
 use ep_attr::AttrMap;
-use ep_parts::Seam;
 use ep_units::NoMemory;
 use std::alloc::Global;
 
-/// Moves the next stretch, of at most so many units, and answers how many it has.
-fn keep_stretch(
-    out: &mut Writer,
-    rest: &mut Reading<'_>,
-    most: u32,
-    seam: Seam,
-) -> Result<u32, NoMemory>
+/// Moves what is next, of at most so many units, where no block is begun, and answers how many it has: pages, groups or blocks
+/// that are shared, or else a part of a block.
+fn keep_piece(out: &mut Writer, rest: &mut Reading<'_>, most: u32) -> Result<u32, NoMemory>
     requires some { 1 ≤ most }
     requires inside { most ≤ length rest.old }
     requires short { length out.old + most < 2 ^ 32 }
@@ -24,32 +19,6 @@ fn keep_stretch(
     ensures done { IfOk result (λ n. out.new ≡ out.old ++ take n rest.old) }
     ensures rest { IfOk result (λ n. rest.new ≡ drop n rest.old) }
 {
-    match rest.take(most) {
-        None => Ok(most),
-        Some(stretch) => {
-            out.push(stretch.text, stretch.attrs, seam)?;
-            Ok(stretch.text.len() as u32)
-        }
-    }
-}
-
-/// Moves what is next, of at most so many units, and answers how many it has.
-fn keep_piece(
-    out: &mut Writer,
-    rest: &mut Reading<'_>,
-    most: u32,
-    seam: Seam,
-) -> Result<u32, NoMemory>
-    requires some { 1 ≤ most }
-    requires inside { most ≤ length rest.old }
-    requires short { length out.old + most < 2 ^ 32 }
-    ensures units { IfOk result (λ n. (1 ≤ n) × (n ≤ most)) }
-    ensures done { IfOk result (λ n. out.new ≡ out.old ++ take n rest.old) }
-    ensures rest { IfOk result (λ n. rest.new ≡ drop n rest.old) }
-{
-    if rest.is_inside() {
-        return keep_stretch(out, rest, most, seam);
-    }
     let pages = rest.take_pages(most);
     if pages.units > 0 {
         out.push_pages(pages.items)?;
@@ -65,7 +34,7 @@ fn keep_piece(
         out.push_blocks(blocks.items)?;
         return Ok(blocks.units);
     }
-    keep_stretch(out, rest, most, seam)
+    rest.give_next(out, most)
 }
 
 /// Moves the next stretch, of at most so many units, after a map, and answers how many it has.
@@ -87,7 +56,7 @@ fn paint_piece(
         None => Ok(most),
         Some(stretch) => {
             let painted = stretch.attrs.apply_doc(alloc, attrs)?;
-            out.push(stretch.text, &painted, Seam::Joined)?;
+            out.push(stretch.text, &painted)?;
             Ok(stretch.text.len() as u32)
         }
     }
@@ -100,11 +69,9 @@ fn keep_bare(out: &mut Writer, rest: &mut Reading<'_>, units: u32) -> Result<(),
     ensures done { OnOk result (out.new ≡ out.old ++ take units rest.old) }
     ensures rest { OnOk result (rest.new ≡ drop units rest.old) }
 {
-    let mut left = units;
-    let mut seam = Seam::Joined;
+    let mut left = units - rest.give(out, units)?;
     'pieces: while left > 0 {
-        left -= keep_piece(out, rest, left, seam)?;
-        seam = Seam::Apart;
+        left -= keep_piece(out, rest, left)?;
     }
     Ok(())
 }

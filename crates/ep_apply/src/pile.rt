@@ -3,6 +3,7 @@
 ghost use Rattle.std.specs.Prelude.{◌≡◌, ◌≤◌, ◌<◌, ◌^◌, ◌+◌, ◌++◌, [], length, OnOk, IfOk};
 ghost use Rattle.std.specs.Arc.{arc_value};
 ghost use Rattle.ep_apply.specs.Blocks.{all_cells};
+ghost use Rattle.ep_apply.specs.Bodies.{body_cells};
 
 use crate::block::Block;
 use crate::body::Body;
@@ -139,13 +140,16 @@ impl Pile {
         self.groups.share_all(pages)
     }
 
-    /// All of it.
+    /// All of it: in groups, if there is more than one.
     pub fn finish(self) -> Result<Body, NoMemory>
         requires { length self < 2 ^ 32 }
-        ensures { IfOk result (λ body. body ≡ self) }
+        ensures { IfOk result (λ body. body_cells body ≡ self) }
     {
         let mut groups = self.groups;
         let mut blocks = self.blocks;
+        if groups.is_empty() {
+            return Ok(Body::Blocks(blocks));
+        }
         close(self.alloc, &mut groups, &mut blocks)?;
         groups.finish()
     }

@@ -1,6 +1,6 @@
 //! A document that is read from its first unit to its last.
 
-ghost use Rattle.std.specs.Prelude.{◌≡◌, ◌≤◌, ◌++◌, [], length, drop, MatchOption};
+ghost use Rattle.std.specs.Prelude.{◌≡◌, ◌≤◌, ◌<◌, ◌^◌, ◌+◌, ◌++◌, [], length, take, drop, MatchOption, IfOk};
 ghost use Rattle.std.specs.Arc.{arc_value};
 ghost use Rattle.ep_cs.specs.Runs.{cells};
 ghost use Rattle.ep_apply.specs.Blocks.{all_cells};
@@ -9,7 +9,9 @@ use crate::ahead::Ahead;
 use crate::block::Block;
 use crate::front::Front;
 use crate::node::{Group, Page};
+use crate::writer::Writer;
 use ep_parts::{Stretch, Within};
+use ep_units::NoMemory;
 use std::marker::Model;
 use std::sync::Arc;
 
@@ -49,9 +51,35 @@ impl<'a> Reading<'a> {
         self.here.take(most)
     }
 
-    /// Whether a block is begun.
-    pub(crate) fn is_inside(&self) -> bool {
-        !self.here.is_over()
+    /// Moves what is left of the block that is begun, at most so many units, and answers how many.
+    pub(crate) fn give(&mut self, out: &mut Writer, most: u32) -> Result<u32, NoMemory>
+        requires { length out.old + most < 2 ^ 32 }
+        ensures units { IfOk result (λ n. n ≤ most) }
+        ensures done { IfOk result (λ n. out.new ≡ out.old ++ take n self.old) }
+        ensures rest { IfOk result (λ n. self.new ≡ drop n self.old) }
+    {
+        if self.here.is_over() {
+            return Ok(0);
+        }
+        out.take_from(&mut self.here, most)
+    }
+
+    /// Begins the next block, where none is begun, moves at most so many units of it, and answers how many.
+    pub(crate) fn give_next(&mut self, out: &mut Writer, most: u32) -> Result<u32, NoMemory>
+        requires some { 1 ≤ most }
+        requires inside { most ≤ length self.old }
+        requires short { length out.old + most < 2 ^ 32 }
+        ensures units { IfOk result (λ n. (1 ≤ n) × (n ≤ most)) }
+        ensures done { IfOk result (λ n. out.new ≡ out.old ++ take n self.old) }
+        ensures rest { IfOk result (λ n. self.new ≡ drop n self.old) }
+    {
+        if self.here.is_over() {
+            match self.ahead.take() {
+                None => return Ok(most),
+                Some(block) => self.here = block.within(),
+            }
+        }
+        out.take_from(&mut self.here, most)
     }
 
     /// Takes the next pages, where no block, no group and no page is begun: as many as have at most so many units.

@@ -1,8 +1,9 @@
 //! Groups that are written, one behind another.
 
-ghost use Rattle.std.specs.Prelude.{◌≡◌, ◌≤◌, ◌<◌, ◌^◌, ◌+◌, ◌++◌, [], length, OnOk, IfOk};
+ghost use Rattle.std.specs.Prelude.{◌≡◌, ◌≤◌, ◌<◌, ◌^◌, ◌+◌, ◌++◌, [], true, length, OnOk, IfOk};
 ghost use Rattle.std.specs.Arc.{arc_value};
 ghost use Rattle.ep_apply.specs.Blocks.{all_cells};
+ghost use Rattle.ep_apply.specs.Bodies.{body_cells};
 
 use crate::body::Body;
 use crate::front::{have_room, share_front};
@@ -80,6 +81,13 @@ impl Stack {
         Ok(())
     }
 
+    /// Whether there are no groups.
+    pub fn is_empty(&self) -> bool
+        ensures { result ≡ true → self.now ≡ [] }
+    {
+        self.groups.is_empty() && self.pages.is_empty()
+    }
+
     /// Whether there are groups that are in no page.
     pub fn is_begun(&self) -> bool {
         !self.groups.is_empty()
@@ -126,14 +134,14 @@ impl Stack {
     /// All of it: in pages, if there is more than one.
     pub fn finish(self) -> Result<Body, NoMemory>
         requires { length self < 2 ^ 32 }
-        ensures { IfOk result (λ body. body ≡ self) }
+        ensures { IfOk result (λ body. body_cells body ≡ self) }
     {
         let mut pages = self.pages;
         let mut groups = self.groups;
-        if !pages.is_empty() {
-            close(self.alloc, &mut pages, &mut groups)?;
-            groups = Vec::new(self.alloc);
+        if pages.is_empty() {
+            return Ok(Body::Groups(groups));
         }
-        Ok(Body { groups, pages })
+        close(self.alloc, &mut pages, &mut groups)?;
+        Ok(Body::Pages(pages))
     }
 }

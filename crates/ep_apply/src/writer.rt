@@ -1,16 +1,17 @@
 //! A document that is written from its first unit to its last.
 
-ghost use Rattle.std.specs.Prelude.{◌≡◌, ◌≤◌, ◌<◌, ◌^◌, ◌+◌, ◌++◌, [], length, take, OnOk, IfOk};
+ghost use Rattle.std.specs.Prelude.{◌≡◌, ◌≤◌, ◌<◌, ◌^◌, ◌+◌, ◌++◌, [], length, min, take, drop, OnOk, IfOk};
 ghost use Rattle.std.specs.Arc.{arc_value};
 ghost use Rattle.ep_cs.specs.Runs.{cells};
 ghost use Rattle.ep_apply.specs.Blocks.{all_cells};
+ghost use Rattle.ep_apply.specs.Bodies.{body_cells};
 
 use crate::block::Block;
 use crate::body::Body;
 use crate::node::{Group, Node, Page};
 use crate::pile::Pile;
 use ep_attr::AttrMap;
-use ep_parts::{Parts, Seam};
+use ep_parts::{Parts, Within};
 use ep_units::NoMemory;
 use std::alloc::Global;
 use std::marker::Model;
@@ -91,45 +92,67 @@ impl Writer {
         Ok(())
     }
 
-    /// Adds a piece of a text with a map, and answers how many units it has: all, if these are not too many for a block.
-    fn push_piece(&mut self, text: &[u16], attrs: &AttrMap, seam: Seam) -> Result<usize, NoMemory>
+    // Whether a block is open, and so many units more are not too many for it.
+    fn is_open_for(&self, units: usize) -> bool {
+        let open = self.open.len() as usize;
+        open > 0 && units <= MOST.saturating_sub(open)
+    }
+
+    /// Adds a piece of a text with a map.
+    fn push_piece(&mut self, text: &[u16], attrs: &AttrMap) -> Result<(), NoMemory>
         requires some { 1 ≤ length text.now }
         requires short { length self.old + length text.now < 2 ^ 32 }
-        ensures units { IfOk result (λ n. (1 ≤ n) × (n ≤ length text.now)) }
-        ensures done { IfOk result (λ n. self.new ≡ self.old ++ cells attrs.now (take n text.now)) }
+        ensures { OnOk result (self.new ≡ self.old ++ cells attrs.now text.now) }
     {
-        let open = self.open.len() as usize;
-        if open == 0 || text.len() > MOST - open.min(MOST) {
+        if !self.is_open_for(text.len()) {
             self.begin()?;
         }
-        let units = if text.len() > MOST { PART } else { text.len() };
-        self.open.push(self.alloc, &text[..units], attrs, seam)?;
-        Ok(units)
+        self.open.push(self.alloc, text, attrs)
     }
 
     /// Adds a text with a map.
-    pub fn push(&mut self, text: &[u16], attrs: &AttrMap, seam: Seam) -> Result<(), NoMemory>
+    pub fn push(&mut self, text: &[u16], attrs: &AttrMap) -> Result<(), NoMemory>
         requires { length self.old + length text.now < 2 ^ 32 }
         ensures { OnOk result (self.new ≡ self.old ++ cells attrs.now text.now) }
     {
-        let mut at = 0;
-        'pieces: while at < text.len() {
-            at += self.push_piece(&text[at..], attrs, seam)?;
+        let mut rest = text;
+        'parts: while rest.len() > MOST {
+            let (part, later) = rest.split_at(PART);
+            self.push_piece(part, attrs)?;
+            rest = later;
         }
-        Ok(())
+        if rest.is_empty() {
+            return Ok(());
+        }
+        self.push_piece(rest, attrs)
     }
 
-    /// Adds what a block has to the open one.
+    /// Moves what is next of a block, at most so many units, and answers how many.
+    pub fn take_from(&mut self, rest: &mut Within<'_>, most: u32) -> Result<u32, NoMemory>
+        requires { length self.old + most < 2 ^ 32 }
+        ensures units { IfOk result (λ n. n ≡ min (length rest.old) most) }
+        ensures done { IfOk result (λ n. self.new ≡ self.old ++ take n rest.old) }
+        ensures rest { IfOk result (λ n. rest.new ≡ drop n rest.old) }
+    {
+        let units = rest.len().min(most);
+        if units == 0 {
+            return Ok(0);
+        }
+        if !self.is_open_for(units as usize) {
+            self.begin()?;
+        }
+        self.open.take_from(self.alloc, rest, units)?;
+        Ok(units)
+    }
+
+    /// Adds what a block has.
     fn copy_block(&mut self, block: &Block) -> Result<(), NoMemory>
         requires { length self.old + length block.now < 2 ^ 32 }
         ensures { OnOk result (self.new ≡ self.old ++ block.now) }
     {
         let mut rest = block.within();
-        let mut seam = Seam::Joined;
-        'stretches: while let Some(stretch) = rest.take(u32::MAX) {
-            self.push(stretch.text, stretch.attrs, seam)?;
-            seam = Seam::Apart;
-        }
+        let units = rest.len();
+        self.take_from(&mut rest, units)?;
         Ok(())
     }
 
@@ -156,8 +179,7 @@ impl Writer {
         requires { length self.old + length (arc_value block.now) < 2 ^ 32 }
         ensures { OnOk result (self.new ≡ self.old ++ arc_value block.now) }
     {
-        let open = self.open.len() as usize;
-        if open > 0 && open + block.seen().units as usize <= MOST {
+        if self.is_open_for(block.seen().units as usize) {
             self.copy_block(block)
         } else {
             self.share(block)
@@ -245,11 +267,10 @@ impl Writer {
     /// What is written.
     pub fn finish(self) -> Result<Body, NoMemory>
         requires { length self < 2 ^ 32 }
-        ensures { IfOk result (λ body. body ≡ self) }
+        ensures { IfOk result (λ body. body_cells body ≡ self) }
     {
-        let mut pile = self.pile;
-        let mut open = self.open;
-        close(self.alloc, &mut pile, &mut open)?;
-        pile.finish()
+        let mut written = self;
+        close(written.alloc, &mut written.pile, &mut written.open)?;
+        written.pile.finish()
     }
 }

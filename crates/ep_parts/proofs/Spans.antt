@@ -1,18 +1,21 @@
 -- Stretches of a text, taken and added.
-use Rattle.std.proofs.Common.{◌≡◌, inl, inr, ℕ, ◌+◌, ◌-◌, ◌<◌, ◌≤◌, Bool, true, false, List, [], ◌∷◌, ◌++◌, length, take, drop, get_or, if◌then◌else◌, refl, sym, ap, ap₂, ◌∙◌, subst, arith, append_assoc, append-nil, length-drop, take-append-drop, drop-drop}
+use Rattle.std.proofs.Common.{◌≡◌, inl, inr, ℕ, suc, ◌+◌, ◌-◌, ◌<◌, ◌≤◌, Bool, true, false, List, [], ◌∷◌, ◌++◌, length, take, drop, get_or, slice_index_or, slice_set, if◌then◌else◌, refl, sym, ap, ap₂, ◌∙◌, subst, arith, append_assoc, append-nil, length-append, length-drop, take-append-drop, drop-drop}
 use Rattle.std.proofs.lemmas.List.{take-append-le, drop-append-le, length-map, map-append}
-use Rattle.std.proofs.Math.Seq.{take-length, take-add}
+use Rattle.std.proofs.Math.Seq.{take-length, take-add, take-append-add, drop-append-add}
 use Rattle.ep_units.specs.Text.{Text}
 use Rattle.ep_attr.specs.AttrMap.{AttrMap, same_map}
 use Rattle.ep_attr.proofs.SameMap.{exact_map}
 use Rattle.ep_cs.specs.Doc.{Cell, text_of}
 use Rattle.ep_cs.specs.Runs.{cells}
 use Rattle.ep_parts.specs.declared.span.Span.{Span}
-use Rattle.ep_parts.specs.Spans.{Adds, cells_of, all_units, AreSpans, joined_on, first_units, left_of, left_units, AreLeft}
+use Rattle.ep_parts.specs.Spans.{Adds, AddsCells, cells_of, all_units, AreSpans, joined_on, first_units, left_of, left_units, AreLeft}
 
 text_cells : (m : AttrMap) (us : Text) → text_of (cells m us) ≡ us
 text_cells m [] = refl
 text_cells m (u ∷ us) = ap (λ vs. u ∷ vs) (text_cells m us)
+
+length_cells : (m : AttrMap) (us : Text) → length (cells m us) ≡ length us
+length_cells m us = length-map us (λ u. record { unit = u; attrs = m })
 
 pub text_spans : (ss : List Span) (us : Text) → all_units ss ≡ length us → text_of (cells_of ss us) ≡ us
 text_spans [] [] h = refl
@@ -81,6 +84,20 @@ joined_cells (t ∷ (u ∷ ss)) s us = ap (λ cs. cells t.attrs (take t.units us
 
 -- ---- what is left
 
+pub text_left : (ss : List Span) (left : ℕ) (us : Text) → left_units ss left ≡ length us → text_of (left_of ss left us) ≡ us
+text_left [] left [] h = refl
+text_left [] left (u ∷ us) h = absurd (omega (arith, h))
+text_left (s ∷ ss) left us h =
+    map-append (λ (c : Cell). c.unit) (cells s.attrs (take left us)) (cells_of ss (drop left us))
+    ∙ ap₂ (λ (a b : Text). a ++ b) (text_cells s.attrs (take left us)) (text_spans ss (drop left us) (omega (arith, h, length-drop left us)))
+    ∙ take-append-drop left us
+
+pub length_text : (cs : List Cell) → length (text_of cs) ≡ length cs
+length_text cs = length-map cs (λ (c : Cell). c.unit)
+
+pub length_left : (ss : List Span) (left : ℕ) (us : Text) → left_units ss left ≡ length us → length (left_of ss left us) ≡ length us
+length_left ss left us h = sym (length_text (left_of ss left us)) ∙ ap length (text_left ss left us h)
+
 pub all_left : (ss : List Span) (us : Text) → left_of ss (first_units ss) us ≡ cells_of ss us
 all_left [] us = refl
 all_left (s ∷ ss) us = refl
@@ -141,18 +158,25 @@ piece_to_end ss s left us h e =
 
 -- ---- one stretch more, by its text
 
-joined_last : (ss : List Span) (t s : Span) → joined_on (ss ++ t ∷ []) s ≡ ss ++ joined_on (t ∷ []) s
-joined_last [] t s = refl
-joined_last (u ∷ []) t s = refl
-joined_last (u ∷ (v ∷ ss)) t s = ap (λ us. u ∷ us) (joined_last (v ∷ ss) t s)
+-- the last one, to which it is joined, and its units
+pub joined_set : (ss : List Span) (t s : Span) → 0 < length ss → t ≡ slice_index_or ss (length ss - 1) t → same_map t.attrs s.attrs ≡ true
+    → slice_set ss (length ss - 1) (record { units = t.units + s.units; attrs = t.attrs }) ≡ joined_on ss s
+joined_set [] t s h e m = absurd (omega (arith, h))
+joined_set (u ∷ []) t s h e m =
+    let one : AttrMap → List Span = λ k. record { units = t.units + s.units; attrs = k } ∷ [] in
+    ap one (exact_map t.attrs s.attrs m) ∙ ap (λ (b : Bool). if b then one s.attrs else (t ∷ (s ∷ []))) (sym m)
+    ∙ ap (λ (x : Span). joined_on (x ∷ []) s) e
+joined_set (u ∷ (v ∷ ss)) t s h e m =
+    let k : length (u ∷ (v ∷ ss)) - 1 ≡ suc (length (v ∷ ss) - 1) = omega arith in
+    let x : Span = record { units = t.units + s.units; attrs = t.attrs } in
+    ap (λ (n : ℕ). slice_set (u ∷ (v ∷ ss)) n x) k ∙ ap (λ us. u ∷ us) (joined_set (v ∷ ss) t s (omega arith) (e ∙ ap (λ (n : ℕ). slice_index_or (u ∷ (v ∷ ss)) n t) k) m)
 
-pub joined_same : (ss : List Span) (t s : Span) → same_map t.attrs s.attrs ≡ true → joined_on (ss ++ t ∷ []) s ≡ ss ++ record { units = t.units + s.units; attrs = s.attrs } ∷ []
-joined_same ss t s e = joined_last ss t s ∙ ap (λ (b : Bool). ss ++ (if b then record { units = t.units + s.units; attrs = s.attrs } ∷ [] else (t ∷ (s ∷ [])))) e
-
-pub joined_apart : (ss : List Span) (t s : Span) → same_map t.attrs s.attrs ≡ false → joined_on (ss ++ t ∷ []) s ≡ (ss ++ t ∷ []) ++ s ∷ []
-joined_apart ss t s e =
-    joined_last ss t s ∙ ap (λ (b : Bool). ss ++ (if b then record { units = t.units + s.units; attrs = s.attrs } ∷ [] else (t ∷ (s ∷ [])))) e
-    ∙ sym (append_assoc ss (t ∷ []) (s ∷ []))
+pub last_units : (ss : List Span) (t : Span) → 0 < length ss → t ≡ slice_index_or ss (length ss - 1) t → t.units ≤ all_units ss
+last_units [] t h e = absurd (omega (arith, h))
+last_units (u ∷ []) t h e = omega (arith, ap (λ (x : Span). x.units) e)
+last_units (u ∷ (v ∷ ss)) t h e =
+    let k : length (u ∷ (v ∷ ss)) - 1 ≡ suc (length (v ∷ ss) - 1) = omega arith in
+    omega (arith, last_units (v ∷ ss) t (omega arith) (e ∙ ap (λ (n : ℕ). slice_index_or (u ∷ (v ∷ ss)) n t) k))
 
 more_cells : (ss : List Span) (s : Span) (us vs : Text) → all_units ss ≡ length us → s.units ≡ length vs
     → cells_of (joined_on ss s) (us ++ vs) ≡ cells_of ss us ++ cells s.attrs vs
@@ -174,3 +198,75 @@ added_cells ss ts s us vs (inl e) h k = ap (λ (ss : List Span). cells_of ss (us
 added_cells ss ts s us vs (inr e) h k =
     ap (λ (ss : List Span). cells_of ss (us ++ vs)) e ∙ cells-append ss (s ∷ []) us vs h
     ∙ ap (λ cs. cells_of ss us ++ cs) (append-nil _ ∙ ap (λ (n : ℕ). cells s.attrs (take n vs)) k ∙ ap (cells s.attrs) (take-length vs))
+
+-- ---- stretches more, by their cells
+
+pub adds_none : (ss : List Span) → AddsCells ss [] ss
+adds_none ss = record {
+  units = omega arith;
+  spans = λ h. h;
+  stand = λ us h. ap (cells_of ss) (append-nil us) ∙ sym (append-nil (cells_of ss us));
+}
+
+pub adds_more : (ss ts us : List Span) (cs ds : List Cell) → AddsCells ss cs ts → AddsCells ts ds us → AddsCells ss (cs ++ ds) us
+adds_more ss ts us cs ds a b = record {
+  units = omega (arith, a.units, b.units, length-append cs ds);
+  spans = λ h. b.spans (a.spans h);
+  stand =
+      λ vs h.
+      let whole : all_units ts ≡ length (vs ++ text_of cs) = omega (arith, h, a.units, length-append vs (text_of cs), length_text cs) in
+      ap (λ ws. cells_of us (vs ++ ws)) (map-append (λ (c : Cell). c.unit) cs ds) ∙ ap (cells_of us) (sym (append_assoc vs (text_of cs) (text_of ds)))
+      ∙ b.stand (vs ++ text_of cs) whole ∙ ap (λ es. es ++ ds) (a.stand vs h) ∙ append_assoc (cells_of ss vs) cs ds;
+}
+
+-- one stretch
+pub adds_one : (ss ts : List Span) (m : AttrMap) (vs : Text) → 1 ≤ length vs → ts ≡ ss ++ record { units = length vs; attrs = m } ∷ [] → AddsCells ss (cells m vs) ts
+adds_one ss ts m vs some e =
+    let s : Span = record { units = length vs; attrs = m } in
+    record {
+      units = added_units ss ts s (inr e) ∙ ap (λ (n : ℕ). all_units ss + n) (sym (length_cells m vs));
+      spans = λ h. added_spans ss ts s (inr e) h some;
+      stand = λ us h. ap (λ ws. cells_of ts (us ++ ws)) (text_cells m vs) ∙ added_cells ss ts s us vs (inr e) h refl;
+    }
+
+-- the next units in two parts
+pub take_left : {A : Type 0} (left n : ℕ) (cs : List A) → n ≤ left → take left cs ≡ take n cs ++ take (left - n) (drop n cs)
+take_left left n cs h =
+    let e : left ≡ n + (left - n) = omega (arith, h) in
+    ap (λ (k : ℕ). take k cs) e ∙ take-add n (left - n) cs
+
+pub drop_left : {A : Type 0} (left n : ℕ) (cs : List A) → n ≤ left → drop (left - n) (drop n cs) ≡ drop left cs
+drop_left left n cs h =
+    let e : n + (left - n) ≡ left = omega (arith, h) in
+    drop-drop (left - n) n cs ∙ ap (λ (k : ℕ). drop k cs) e
+
+-- stretches that are moved: those that are still to come complete what was to be moved
+pub record AreMoved (ss : List Span) (units : ℕ) (all : List Cell) (ts : List Span) (left : ℕ) (rest : List Cell) : Type 0 where
+  pub to_come : (us : List Span) → AddsCells ts (take left rest) us → AddsCells ss (take units all) us
+  pub behind : drop left rest ≡ drop units all
+  pub enough : left ≤ length rest
+
+pub more_moved : (ss ts us : List Span) (units left n : ℕ) (all rest later : List Cell) → AreMoved ss units all ts left rest → n ≤ left → AddsCells ts (take n rest) us → later ≡ drop n rest
+    → AreMoved ss units all us (left - n) later
+more_moved ss ts us units left n all rest later m h a e = subst (AreMoved ss units all us (left - n)) (sym e) (record {
+  to_come =
+      λ vs b. m.to_come vs (subst (λ cs. AddsCells ts cs vs) (sym (take_left left n rest h)) (adds_more ts us vs (take n rest) (take (left - n) (drop n rest)) a b));
+  behind = drop_left left n rest h ∙ m.behind;
+  enough = omega (arith, m.enough, length-drop n rest);
+})
+
+-- what was taken first, and the rest
+pub taken_front : (m : AttrMap) (us : Text) (all rest : List Cell) → all ≡ cells m us ++ rest → take (length us) all ≡ cells m us
+taken_front m us all rest e =
+    let n : length us ≡ length (cells m us) + 0 = omega (arith, length_cells m us) in
+    ap₂ (λ (k : ℕ) (cs : List Cell). take k cs) n e ∙ take-append-add (cells m us) rest 0 ∙ append-nil (cells m us)
+
+pub taken_on : (m : AttrMap) (us : Text) (n : ℕ) (all rest : List Cell) → all ≡ cells m us ++ rest → length us ≤ n → take n all ≡ cells m us ++ take (n - length us) rest
+taken_on m us n all rest e h =
+    let k : n ≡ length (cells m us) + (n - length us) = omega (arith, h, length_cells m us) in
+    ap₂ (λ (k : ℕ) (cs : List Cell). take k cs) k e ∙ take-append-add (cells m us) rest (n - length us)
+
+pub dropped_on : (m : AttrMap) (us : Text) (n : ℕ) (all rest : List Cell) → all ≡ cells m us ++ rest → length us ≤ n → drop (n - length us) rest ≡ drop n all
+dropped_on m us n all rest e h =
+    let k : n ≡ length (cells m us) + (n - length us) = omega (arith, h, length_cells m us) in
+    sym (ap₂ (λ (k : ℕ) (cs : List Cell). drop k cs) k e ∙ drop-append-add (cells m us) rest (n - length us))

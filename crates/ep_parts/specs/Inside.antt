@@ -20,3 +20,4 @@ left_within w = left_of w.spans.now w.left w.text.now
 pub record IsWithin (w : within.Inside) : Type 0 where
   pub spans : AreLeft w.spans.now w.left
   pub whole : left_units w.spans.now w.left ≡ length w.text.now
+  pub short : length w.text.now < 2 ^ 32

@@ -1,8 +1,8 @@
 -- Documents as stretches of units, each with one map.
-use Rattle.std.specs.Prelude.{◌≡◌, ◌⊎◌, ℕ, ◌+◌, ◌≤◌, List, [], ◌∷◌, ◌++◌, take, drop, if◌then◌else◌}
+use Rattle.std.specs.Prelude.{◌≡◌, ◌⊎◌, ℕ, ◌+◌, ◌≤◌, List, [], ◌∷◌, ◌++◌, length, take, drop, if◌then◌else◌}
 use Rattle.ep_units.specs.Text.{Text}
 use Rattle.ep_attr.specs.AttrMap.{same_map}
-use Rattle.ep_cs.specs.Doc.{Cell}
+use Rattle.ep_cs.specs.Doc.{Cell, text_of}
 use Rattle.ep_cs.specs.Runs.{cells}
 use Rattle.ep_parts.specs.declared.span.Span.{Span}
 
@@ -29,6 +29,12 @@ joined_on (t ∷ (u ∷ ss)) s = t ∷ joined_on (u ∷ ss) s
 -- a stretch is added, joined to the last or not
 abbrev pub Adds : List Span → Span → List Span → Type 0
 Adds ss s ts = (ts ≡ joined_on ss s) ⊎ (ts ≡ ss ++ s ∷ [])
+
+-- stretches are added that stand for these cells
+pub record AddsCells (ss : List Span) (cs : List Cell) (ts : List Span) : Type 0 where
+  pub units : all_units ts ≡ all_units ss + length cs
+  pub spans : AreSpans ss → AreSpans ts
+  pub stand : (us : Text) → all_units ss ≡ length us → cells_of ts (us ++ text_of cs) ≡ cells_of ss us ++ cs
 
 abbrev pub first_units : List Span → ℕ
 first_units [] = 0

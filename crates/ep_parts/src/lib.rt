@@ -6,5 +6,4 @@ mod span;
 mod within;
 
 pub use parts::Parts;
-pub use span::Seam;
 pub use within::{Stretch, Within};

@@ -1,11 +1,11 @@
 //! A text in stretches of one map each.
 
-ghost use Rattle.std.specs.Prelude.{◌≡◌, ◌≤◌, ◌<◌, ◌^◌, ◌+◌, ◌++◌, [], length, IfOk, OnOk};
+ghost use Rattle.std.specs.Prelude.{◌≡◌, ◌≤◌, ◌<◌, ◌^◌, ◌+◌, ◌++◌, [], length, take, drop, IfOk, OnOk};
 ghost use Rattle.ep_cs.specs.Doc.{text_of};
 ghost use Rattle.ep_cs.specs.Runs.{cells};
 
-use crate::span::{Seam, Span, add_span, first_units};
-use crate::within::Within;
+use crate::span::{Span, first_units, join_span};
+use crate::within::{Within, take_spans};
 use ep_attr::AttrMap;
 use ep_units::{NoMemory, Units};
 use std::alloc::Global;
@@ -83,23 +83,66 @@ impl Parts {
         }
     }
 
-    /// Adds a text with a map.
-    pub fn push(
-        &mut self,
-        alloc: Global,
-        text: &[u16],
-        attrs: &AttrMap,
-        seam: Seam,
-    ) -> Result<(), NoMemory>
+    /// Adds a text with a map. Where memory is wanting nothing may be left.
+    pub fn push(&mut self, alloc: Global, text: &[u16], attrs: &AttrMap) -> Result<(), NoMemory>
         requires some { 1 ≤ length text.now }
         requires short { length self.old + length text.now < 2 ^ 32 }
         ensures { OnOk result (self.new ≡ self.old ++ cells attrs.now text.now) }
     {
-        self.spans.reserve(1)?;
-        let attrs = attrs.copy(alloc)?;
         self.text.push_all(text)?;
-        let units = text.len() as u32;
-        add_span(&mut self.spans, Span { units, attrs }, seam);
-        Ok(())
+        match join_span(alloc, &mut self.spans, text.len() as u32, attrs) {
+            Ok(()) => Ok(()),
+            Err(no_memory) => {
+                *self = Parts::empty(alloc);
+                Err(no_memory)
+            }
+        }
+    }
+
+    /// Moves the next units of another text, so many.
+    pub fn take_from(
+        &mut self,
+        alloc: Global,
+        rest: &mut Within<'_>,
+        units: u32,
+    ) -> Result<(), NoMemory>
+        requires some { 1 ≤ units }
+        requires inside { units ≤ length rest.old }
+        requires short { length self.old + units < 2 ^ 32 }
+        ensures done { OnOk result (self.new ≡ self.old ++ take units rest.old) }
+        ensures rest { OnOk result (rest.new ≡ drop units rest.old) }
+    {
+        match rest.take(units) {
+            None => Ok(()),
+            Some(first) => {
+                self.push(alloc, first.text, first.attrs)?;
+                self.take_more(alloc, rest, units - first.text.len() as u32)
+            }
+        }
+    }
+
+    /// Moves the next units of another text, so many, whose next stretch has another map than the last one here.
+    fn take_more(
+        &mut self,
+        alloc: Global,
+        rest: &mut Within<'_>,
+        units: u32,
+    ) -> Result<(), NoMemory>
+        requires inside { units ≤ length rest.old }
+        requires short { length self.old + units < 2 ^ 32 }
+        ensures done { OnOk result (self.new ≡ self.old ++ take units rest.old) }
+        ensures rest { OnOk result (rest.new ≡ drop units rest.old) }
+    {
+        if units == 0 {
+            return Ok(());
+        }
+        self.text.push_all(&rest.text()[..units as usize])?;
+        match take_spans(alloc, &mut self.spans, rest, units) {
+            Ok(()) => Ok(()),
+            Err(no_memory) => {
+                *self = Parts::empty(alloc);
+                Err(no_memory)
+            }
+        }
     }
 }

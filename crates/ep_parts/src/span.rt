@@ -1,9 +1,11 @@
 //! Stretches of units with one map each.
 
-ghost use Rattle.std.specs.Prelude.{◌≡◌, ◌<◌, ◌^◌, ◌+◌, vec_len, vec_capacity};
-ghost use Rattle.ep_parts.specs.Spans.{Adds, all_units, first_units, joined_on};
+ghost use Rattle.std.specs.Prelude.{◌≡◌, ◌<◌, ◌^◌, ◌+◌, ◌++◌, ◌∷◌, [], OnOk};
+ghost use Rattle.ep_parts.specs.Spans.{Adds, all_units, first_units};
 
 use ep_attr::AttrMap;
+use ep_units::NoMemory;
+use std::alloc::Global;
 
 /// So many units with one map.
 #[derive(Drop)]
@@ -22,45 +24,36 @@ pub fn first_units(spans: &[Span]) -> u32
     }
 }
 
-/// How a stretch is added.
-#[derive(Clone, Copy)]
-pub enum Seam {
-    /// Behind the last one, whose map isn't looked at.
-    Apart,
-    /// To the last one, where both have one map.
-    Joined,
-}
-
-/// Adds a stretch.
-pub fn add_span(spans: &mut Vec<Span>, span: Span, seam: Seam)
-    requires room { vec_len spans.old < vec_capacity spans.old }
-    requires short { all_units spans.old.items + span.units < 2 ^ 32 }
-    ensures { Adds spans.old.items span spans.new.items }
+/// Adds a stretch behind the last one.
+pub fn add_span(
+    alloc: Global,
+    spans: &mut Vec<Span>,
+    units: u32,
+    attrs: &AttrMap,
+) -> Result<(), NoMemory>
+    ensures { OnOk result (spans.new.items ≡ spans.old.items ++ record { units = units; attrs = attrs.now } ∷ []) }
 {
-    match seam {
-        Seam::Apart => spans.push_reserved(span),
-        Seam::Joined => push_span(spans, span),
-    }
+    spans.reserve(1)?;
+    let attrs = attrs.copy(alloc)?;
+    spans.push_reserved(Span { units, attrs });
+    Ok(())
 }
 
 /// Adds a stretch, to the last one where both have one map.
-fn push_span(spans: &mut Vec<Span>, span: Span)
-    requires room { vec_len spans.old < vec_capacity spans.old }
-    requires short { all_units spans.old.items + span.units < 2 ^ 32 }
-    ensures { spans.new.items ≡ joined_on spans.old.items span }
+pub fn join_span(
+    alloc: Global,
+    spans: &mut Vec<Span>,
+    units: u32,
+    attrs: &AttrMap,
+) -> Result<(), NoMemory>
+    requires short { all_units spans.old.items + units < 2 ^ 32 }
+    ensures { OnOk result (Adds spans.old.items (record { units = units; attrs = attrs.now }) spans.new.items) }
 {
-    match spans.pop() {
-        None => spans.push_reserved(span),
-        Some(last) => {
-            if last.attrs == span.attrs {
-                spans.push_reserved(Span {
-                    units: last.units + span.units,
-                    attrs: span.attrs,
-                });
-            } else {
-                spans.push_reserved(last);
-                spans.push_reserved(span);
-            }
+    if let Some(last) = spans.last_mut() {
+        if last.attrs == *attrs {
+            last.units += units;
+            return Ok(());
         }
     }
+    add_span(alloc, spans, units, attrs)
 }

@@ -1,10 +1,14 @@
 //! Stretches that are read from the first to the last.
 
-ghost use Rattle.std.specs.Prelude.{◌≡◌, ◌≤◌, ◌++◌, [], length, MatchBool, MatchOption};
+ghost use Rattle.std.specs.Prelude.{◌≡◌, ◌≤◌, ◌++◌, [], length, take, drop, MatchBool, MatchOption, IfOk, OnOk};
+ghost use Rattle.ep_cs.specs.Doc.{text_of};
 ghost use Rattle.ep_cs.specs.Runs.{cells};
+ghost use Rattle.ep_parts.specs.Spans.{AddsCells};
 
-use crate::span::{Span, first_units};
+use crate::span::{Span, add_span, first_units};
 use ep_attr::AttrMap;
+use ep_units::NoMemory;
+use std::alloc::Global;
 use std::marker::Model;
 
 /// A text with one map.
@@ -51,6 +55,20 @@ impl<'a> Within<'a> {
         }
     }
 
+    /// How many units are left.
+    pub fn len(&self) -> u32
+        ensures { result ≡ length self.now }
+    {
+        self.text.len() as u32
+    }
+
+    /// The text that is left.
+    pub(crate) fn text(&self) -> &'a [u16]
+        ensures { result.now ≡ text_of self.now }
+    {
+        self.text
+    }
+
     /// Whether nothing is left.
     pub fn is_over(&self) -> bool
         ensures { MatchBool result (self.now ≡ []) (1 ≤ length self.now) }
@@ -81,4 +99,45 @@ impl<'a> Within<'a> {
             }
         }
     }
+}
+
+/// Moves the next stretch, of at most so many units, behind others, and answers how many it has.
+fn take_span(
+    alloc: Global,
+    spans: &mut Vec<Span>,
+    rest: &mut Within<'_>,
+    most: u32,
+) -> Result<u32, NoMemory>
+    requires some { 1 ≤ most }
+    requires inside { most ≤ length rest.old }
+    ensures units { IfOk result (λ n. (1 ≤ n) × (n ≤ most)) }
+    ensures done { IfOk result (λ n. AddsCells spans.old.items (take n rest.old) spans.new.items) }
+    ensures rest { IfOk result (λ n. rest.new ≡ drop n rest.old) }
+{
+    match rest.take(most) {
+        None => Ok(most),
+        Some(stretch) => {
+            let units = stretch.text.len() as u32;
+            add_span(alloc, spans, units, stretch.attrs)?;
+            Ok(units)
+        }
+    }
+}
+
+/// Moves the stretches of the next units, so many, behind others.
+pub(crate) fn take_spans(
+    alloc: Global,
+    spans: &mut Vec<Span>,
+    rest: &mut Within<'_>,
+    units: u32,
+) -> Result<(), NoMemory>
+    requires { units ≤ length rest.old }
+    ensures done { OnOk result (AddsCells spans.old.items (take units rest.old) spans.new.items) }
+    ensures rest { OnOk result (rest.new ≡ drop units rest.old) }
+{
+    let mut left = units;
+    'stretches: while left > 0 {
+        left -= take_span(alloc, spans, rest, left)?;
+    }
+    Ok(())
 }

@@ -1,15 +1,16 @@
-use Rattle.std.proofs.Common.{◌∙◌, ◌++◌, take, ap, arith, length-drop}
-use Rattle.std.proofs.lemmas.List.{take_rest}
-use Rattle.ep_units.specs.Text.{Text}
+use Rattle.std.proofs.Common.{length, ap, arith, length-append}
 use Rattle.ep_cs.specs.Runs.{cells}
-use Rattle.ep_apply.proofs.Pieces.{piece_added}
+use Rattle.ep_apply.proofs.Pieces.{length_cells}
 use Rattle.ep_apply.proofs.writer.Writer.push.Goals as goal
 
-pub pieces-preserved : goal.pieces-preserved
-pieces-preserved c =
-    let n = c.in_ok-at in
-    let now = ap (λ (us : Text). c.pieces.self ++ cells c.args.attrs.now (take n.field-0 us)) (take_rest c.args.text.now c.pieces.at) in
-    record {
-      done = piece_added c.args.attrs.now c.args.text.now c.pieces.at n.field-0 c.args.self.now c.pieces.self c.push_piece.new.self c.pieces.invariant.done (n.ensures.done ∙ now);
-      within = omega (arith, n.ensures.units.1, length-drop c.pieces.at c.args.text.now);
-    }
+pub push_piece-requires-clause-short : goal.push_piece-requires-clause-short
+push_piece-requires-clause-short c =
+    let m = c.args.attrs.now in
+    let us = c.parts.rest.now in
+    omega (arith, ap length c.parts.invariant, length-append c.parts.self (cells m us), length-append c.args.self.now (cells m c.args.text.now), length_cells m us, length_cells m c.args.text.now, c.split_at.ensures.front_len, c.requires)
+
+pub push_piece-requires-2-clause-short : goal.push_piece-requires-2-clause-short
+push_piece-requires-2-clause-short c =
+    let m = c.args.attrs.now in
+    let us = c.parts.rest.now in
+    omega (arith, ap length c.parts.invariant, length-append c.parts.self (cells m us), length-append c.args.self.now (cells m c.args.text.now), length_cells m us, length_cells m c.args.text.now, c.requires)

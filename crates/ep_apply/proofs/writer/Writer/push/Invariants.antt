@@ -1,12 +1,9 @@
-use Rattle.std.proofs.Common.{◌≡◌, ◌≤◌, ◌++◌, ◌-◌, take, length}
+use Rattle.std.proofs.Common.{◌≡◌, ◌++◌, length}
 use Rattle.ep_cs.specs.Runs.{cells}
 use Rattle.ep_apply.proofs.writer.Writer.push.Given as goal
 
-abbrev pub invariant-pieces : goal.invariant-pieces
-invariant-pieces l = record {
-  done : l.self ≡ l.initial.self ++ cells l.attrs (take l.at l.text);
-  within : l.at ≤ length l.text;
-}
+abbrev pub invariant-parts : goal.invariant-parts
+invariant-parts l = l.self ++ cells l.attrs l.rest ≡ l.initial.self ++ cells l.attrs l.text
 
-abbrev pub decreases-pieces : goal.decreases-pieces
-decreases-pieces l = length l.text - l.at
+abbrev pub decreases-parts : goal.decreases-parts
+decreases-parts l = length l.rest
