@@ -11,7 +11,7 @@ use Rattle.ep_units.specs.Text.{Text, is_newline}
 use Rattle.ep_cs.specs.Doc.{Cell, text_of}
 use Rattle.ep_cs.specs.Lines.{count_lines, is_whole_lines}
 use Rattle.std.specs.List.{AllZip, AppendsClones}
-use Rattle.ep_apply.specs.Blocks.{all_cells, node_cells, its_own, Sees}
+use Rattle.ep_apply.specs.Blocks.{all_cells, node_cells, Sees}
 use Rattle.ep_cs.specs.Fitting.{holds}
 use Rattle.ep_apply.specs.PairEnds.{ends_high}
 use Rattle.ep_apply.specs.declared.seen.Seen.{Seen}

@@ -8,7 +8,6 @@ use Rattle.ep_attr.proofs.Maps.{after-none}
 use Rattle.ep_attr.proofs.SameMap.{exact_map}
 use Rattle.ep_cs.specs.Doc.{Cell, painted}
 use Rattle.ep_cs.specs.Runs.{cells}
-use Rattle.ep_parts.proofs.Spans.{cells-cut}
 
 -- ---- cells by their count
 
