@@ -120,27 +120,33 @@ keep_room made out a b h u head e =
 pub kept_steps : (made : Text) (out : Draft) (a b : Left) (h : Head) (lines : ℕ) → UnderWay made out a b → IsHead h a → h.kind ≡ kind.Insert → (keeping out h.units lines none).steps ≡ out.steps ++ passes (new_cells h a)
 kept_steps made out a b h lines u head e = ap (λ s. out.steps ++ s) (sym (passes_are (new_cells h a) ∙ ap rest_kept (insert_length h a u.text head e u.first)))
 
+-- where the first change's run is kept, the text goes on with it
+pub keep_stretch : (made : Text) (out : Draft) (a b a' : Left) (h : Head) → IsInsert h a a' → (u : UnderWay made out a b)
+    → GoesOn out made (take h.units a.bank) (text_made (steps_left a') (drop (passed (inserts (new_cells h a))) u.text)) h.units h.lines
+keep_stretch made out a b a' h i u =
+    let x : List Cell = new_cells h a in
+    let text : Text = take h.units a.bank in
+    let said = insert_said h a u.text i.head i.kind u.first in
+    record {
+      is = made_on made out a b a' (inserts x) u (insert_steps h a a' i) ∙ ap (λ us. us ++ text_made (steps_left a') (drop (passed (inserts x)) u.text)) (text_new h.attrs.now text (take (passed (inserts x)) u.text));
+      long = length-take-le h.units a.bank said.0;
+      some = insert_units h a u.text i.head i.kind u.first;
+      lined = said.1;
+    }
+
 -- the first change's run is kept
 pub keep_goes : (made : Text) (out out' : Draft) (a b a' : Left) (h : Head) → IsInsert h a a' → out' ≡ keeping out h.units h.lines none → UnderWay made out a b → UnderWay made out' a' b
 keep_goes made out out' a b a' h i o u =
     let x : List Cell = new_cells h a in
     let text : Text = take h.units a.bank in
-    let said = insert_said h a u.text i.head i.kind u.first in
     let steps = insert_steps h a a' i in
     let none_passed = passed_new x in
-    let long : length text ≡ h.units = length-take-le h.units a.bank said.0 in
-    let goes : GoesOn out made text (text_made (steps_left a') (drop (passed (inserts x)) u.text)) h.units h.lines = record {
-      is = made_on made out a b a' (inserts x) u steps ∙ ap (λ us. us ++ text_made (steps_left a') (drop (passed (inserts x)) u.text)) (text_new h.attrs.now text (take (passed (inserts x)) u.text));
-      long = long;
-      some = insert_units h a u.text i.head i.kind u.first;
-      lined = said.1;
-    } in
     let kept = kept_times h.units none in
     go_on made out out' a b a' b (inserts x) [] u steps refl none_passed
     (ap (λ (d : Draft). d.old) o)
     (omega (arith, ap (λ (d : Draft). passed d.steps) o, passed-append out.steps (replicate h.units (Pass (Keep none))), passed_times h.units (Keep none), given_new x, insert_length h a u.text i.head i.kind u.first))
     (omega (arith, ap (λ (d : Draft). inserted_by d.steps) o, inserted-append out.steps (replicate h.units (Pass (Keep none))), kept.1))
-    (subst (λ d. IsTrueDraft d made) (sym o) (true_keep out made text (text_made (steps_left a') (drop (passed (inserts x)) u.text)) h.units h.lines none u.written goes))
+    (subst (λ d. IsTrueDraft d made) (sym o) (true_keep out made text (text_made (steps_left a') (drop (passed (inserts x)) u.text)) h.units h.lines none u.written (keep_stretch made out a b a' h i u)))
     (subst (λ (n : ℕ). AreSaid a'.ops a'.bank (drop n u.text)) (sym none_passed) (taken_said a a' (as_kind kind.Insert h) h.units h.lines u.text (insert_taken h a a' i) (λ g. absurd (omega (arith, g))) u.first))
     (subst (λ (n : ℕ). AreSaid b.ops b.bank (drop n u.text)) (sym none_passed) u.second)
 

@@ -3,6 +3,7 @@ pub mod Steps
 pub mod Going
 pub mod Stretches
 pub mod Fronts
+pub mod Writers
 pub mod Identities
 pub mod Whole
 pub mod OnItsWay

@@ -1,5 +1,5 @@
 -- Places of one run in both changes.
-use Rattle.std.proofs.Common.{◌≡◌, ℕ, zero, suc, ◌+◌, ◌-◌, ◌<◌, ◌≤◌, Bool, false, List, [], ◌∷◌, ◌++◌, length, take, drop, replicate, refl, sym, ap, ◌∙◌, subst, T, arith, append_assoc, length-append, length-take-le}
+use Rattle.std.proofs.Common.{◌≡◌, ℕ, zero, suc, ◌+◌, ◌-◌, ◌<◌, ◌≤◌, inl, Bool, false, List, [], ◌∷◌, ◌++◌, length, take, drop, replicate, refl, sym, ap, ◌∙◌, subst, T, arith, append_assoc, length-append, length-take-le}
 use Rattle.std.proofs.lemmas.List.{length-replicate, replicate-append-replicate}
 use Rattle.ep_units.specs.Text.{Text}
 use Rattle.ep_attr.specs.AttrMap.{AttrMap, none, rest}
@@ -8,7 +8,7 @@ use Rattle.ep_cs.specs.Edit.Fate.{Drop, Keep}
 use Rattle.ep_cs.specs.Edit.Step.{Pass}
 use Rattle.ep_cs.specs.Steps.{passed}
 use Rattle.ep_attr.proofs.Maps.{none-rest, rest-none}
-use Rattle.ep_cs.specs.Draft.{Draft, keeping, inserted_by}
+use Rattle.ep_cs.specs.Draft.{Draft, inserted_by}
 use Rattle.ep_cs.specs.Runs.{inserted, passed as run_passed, run_steps, steps_of, rest_kept}
 use Rattle.ep_cs.specs.Change.{newlines}
 use Rattle.ep_cs.specs.NormalRuns.{IsLined}
@@ -29,8 +29,11 @@ use Rattle.ep_cursor.proofs.Advances.{IsTaken, taken_steps, taken_said, taken_ba
 use Rattle.ep_cursor.proofs.TrueDrafts.{GoesOn, true_keep, true_drop}
 use Rattle.ep_follow.specs.Gaps.{followed, is_insert, begins_with_insert, fate_of, kept_of, followed_run}
 use Rattle.ep_follow.specs.Following.{UnderWay}
+use Rattle.ep_follow.specs.declared.writer.Writer.{Writer}
+use Rattle.ep_follow.specs.Writing.{said, waiting, IsKept, IsFollowedRun, IsTrueWriter, IsGoing}
 use Rattle.ep_follow.proofs.Steps.{run_of, followed_runs}
 use Rattle.ep_follow.proofs.Going.{go_on, made_on}
+use Rattle.ep_follow.proofs.Writers.{run_goes_said}
 
 -- k places of one fate
 abbrev pub times : ℕ → Fate → List Step
@@ -212,6 +215,19 @@ both_goes made out out' a b a' b' h q k l i o =
     (pass_said h a a' k l u.text i.first p.first_rest u.first)
     (pass_said q b b' k l u.text i.second p.second_rest u.second)
 
+pub both_goes_said : (made : Text) (w w' : Writer) (a b a' b' : Left) (h q : Head) (k l : ℕ) → IsTrueWriter w made → IsBoth made (said w) a b a' b' h q k l
+    → IsFollowedRun w k l (fate_of h.kind h.attrs.now) (fate_of q.kind q.attrs.now) w' → IsGoing made w' a' b'
+both_goes_said made w w' a b a' b' h q k l t i e =
+    let u = i.going in
+    let f : Fate = fate_of h.kind h.attrs.now in
+    let g : Fate = fate_of q.kind q.attrs.now in
+    let p = both_piece u.text a b h q k l i.shorter i.first.head i.second.head i.first.passes i.second.passes u.first u.second in
+    let part = both_lined u.text a h k l h.lines q.lines q.units (newlines (take q.units u.text)) i.first.head i.first.passes u.first i.first.within p in
+    let later : Text = text_made (steps_left a') (drop (passed (times k f)) u.text) in
+    run_goes_said made w w' a' b' (take k u.text) later k l f g e t
+    (λ m is. kept_goes made (said w) k l u.text later (stretch_of made (said w) a b a' k l f u (pass_steps h a a' k l i.first) part.0 part.1 m is))
+    (both_goes made (said w) (followed_run (said w) k l f g) a b a' b' h q k l i refl)
+
 -- what is known of the part before it is taken
 pub record IsPart (a b : Left) (h q : Head) (k l : ℕ) : Type 0 where
   pub some : 1 ≤ k
@@ -267,24 +283,35 @@ rest_goes made out out' a b a' b' q u e is p o =
     (subst (λ ops. AreSaid ops a'.bank (drop q.units u.text)) (sym ops) tt)
     (pass_said q b b' q.units q.lines u.text p (λ g. absurd (omega (arith, g))) u.second)
 
+pub rest_goes_said : (made : Text) (w w' : Writer) (a b a' b' : Left) (q : Head) → IsTrueWriter w made → UnderWay made (said w) a b → a.ops ≡ [] → a' ≡ skipped q.units a → IsPass q b b' q.units q.lines
+    → IsFollowedRun w q.units q.lines (Keep none) (fate_of q.kind q.attrs.now) w' → IsGoing made w' a' b'
+rest_goes_said made w w' a b a' b' q t u e is p o =
+    let g : Fate = fate_of q.kind q.attrs.now in
+    let said_here = pass_says q b u.text p.head p.passes u.second in
+    let later : Text = text_made (steps_left a') (drop (passed (times q.units (Keep none))) u.text) in
+    run_goes_said made w w' a' b' (take q.units u.text) later q.units q.lines (Keep none) g o t
+    (λ m is_kept. kept_goes made (said w) q.units q.lines u.text later
+    (stretch_of made (said w) a b a' q.units q.lines (Keep none) u (rest_steps a a' q.units e is (rest_room made (said w) a b q u e p.head p.passes)) said_here.0 said_here.1 m is_kept))
+    (rest_goes made (said w) (followed_run (said w) q.units q.lines (Keep none) g) a b a' b' q u e is p refl)
+
+-- ---- what is written
+
 -- what a run of the second change is where the first keeps
-pub kept_as_is : (k : Kind) (d : Draft) (n l : ℕ) (m : AttrMap) → (k ≡ kind.Drop → ⊥) → keeping d n l m ≡ followed_run d n l (Keep none) (fate_of k m)
-kept_as_is kind.Keep d n l m other = ap (keeping d n l) (sym (none-rest m))
-kept_as_is kind.Drop d n l m other = absurd (other refl)
-kept_as_is kind.Insert d n l m other = ap (keeping d n l) (sym (none-rest m))
+pub kept_as_is : (k : Kind) (w w' : Writer) (n l : ℕ) (m : AttrMap) → (k ≡ kind.Drop → ⊥) → IsKept w n l m w' → IsFollowedRun w n l (Keep none) (fate_of k m) w'
+kept_as_is kind.Keep w w' n l m other h = subst (λ m. IsKept w n l m w') (sym (none-rest m)) h
+kept_as_is kind.Drop w w' n l m other h = absurd (other refl)
+kept_as_is kind.Insert w w' n l m other h = subst (λ m. IsKept w n l m w') (sym (none-rest m)) h
 
--- what both keep, where the second has no attributes
-pub kept_bare : (j k : Kind) (d : Draft) (n l : ℕ) (a m : AttrMap) → (j ≡ kind.Drop → ⊥) → (k ≡ kind.Drop → ⊥) → m ≡ none → keeping d n l none ≡ followed_run d n l (fate_of j a) (fate_of k m)
-kept_bare j k d n l a m first second e = go j k first second
-  where
-    kept : keeping d n l none ≡ keeping d n l (rest a m)
-    kept = ap (keeping d n l) (sym (ap (rest a) e ∙ rest-none a))
+-- what both keep
+pub both_keep : (j k : Kind) (w w' : Writer) (n l : ℕ) (a m : AttrMap) → (j ≡ kind.Drop → ⊥) → (k ≡ kind.Drop → ⊥) → IsKept w n l (rest a m) w' → IsFollowedRun w n l (fate_of j a) (fate_of k m) w'
+both_keep kind.Drop k w w' n l a m first second h = absurd (first refl)
+both_keep kind.Keep kind.Drop w w' n l a m first second h = absurd (second refl)
+both_keep kind.Keep kind.Keep w w' n l a m first second h = h
+both_keep kind.Keep kind.Insert w w' n l a m first second h = h
+both_keep kind.Insert kind.Drop w w' n l a m first second h = absurd (second refl)
+both_keep kind.Insert kind.Keep w w' n l a m first second h = h
+both_keep kind.Insert kind.Insert w w' n l a m first second h = h
 
-    go : (j k : Kind) → (j ≡ kind.Drop → ⊥) → (k ≡ kind.Drop → ⊥) → keeping d n l none ≡ followed_run d n l (fate_of j a) (fate_of k m)
-    go kind.Drop k first second = absurd (first refl)
-    go kind.Keep kind.Drop first second = absurd (second refl)
-    go kind.Keep kind.Keep first second = kept
-    go kind.Keep kind.Insert first second = kept
-    go kind.Insert kind.Drop first second = absurd (second refl)
-    go kind.Insert kind.Keep first second = kept
-    go kind.Insert kind.Insert first second = kept
+-- where the second has no attributes
+pub kept_bare : (w w' : Writer) (n l : ℕ) (a m : AttrMap) → m ≡ none → w' ≡ waiting w n l → IsKept w n l (rest a m) w'
+kept_bare w w' n l a m e is = inl (ap (rest a) e ∙ rest-none a, is)

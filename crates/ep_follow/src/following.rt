@@ -8,6 +8,7 @@ ghost use Rattle.ep_follow.specs.Follows.{is_a, Follows};
 ghost use Rattle.ep_follow.specs.Following.{IsFollower};
 
 use crate::step::walk;
+use crate::writer::Writer;
 use ep_cs::{Builder, Change, First, MOST_UNITS};
 use ep_cursor::Cursor;
 use ep_units::NoMemory;
@@ -23,11 +24,13 @@ fn written(alloc: Global, a: &Change, b: &Change, first: First) -> Result<Builde
         return Err(NoMemory);
     }
     let runs = a.ops().len().saturating_add(b.ops().len());
-    let mut out = Builder::with_capacity(alloc, a.new_len(), runs, b.bank().len())?;
+    let builder = Builder::with_capacity(alloc, a.new_len(), runs, b.bank().len())?;
+    let mut writer = Writer::new(builder);
     let mut left = Cursor::new(a);
     let mut right = Cursor::new(b);
-    walk(alloc, &mut out, &mut left, &mut right, first)?;
-    Ok(out)
+    walk(alloc, &mut writer, &mut left, &mut right, first)?;
+    // The units that still wait are kept as all that is left.
+    Ok(writer.out)
 }
 
 /// What follows, written piece by piece.

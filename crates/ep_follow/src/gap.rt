@@ -7,35 +7,36 @@ ghost use Rattle.ep_cs.specs.Follow.{passes};
 ghost use Rattle.ep_cursor.specs.Left.{Left, steps_left};
 ghost use Rattle.ep_follow.specs.Follows.{is_a};
 ghost use Rattle.ep_follow.specs.Gaps.{followed, piece, behind, begins_with_insert, Moves};
-ghost use Rattle.ep_follow.specs.Following.{UnderWay};
+ghost use Rattle.ep_follow.specs.Writing.{said, IsGoing};
 
 use crate::front::{goes_first, inserts};
-use ep_cs::{Builder, First};
+use crate::writer::Writer;
+use ep_cs::First;
 use ep_cursor::Cursor;
 use ep_units::NoMemory;
 
 /// Keeps a run that the first change inserts.
-pub fn keep_run(out: &mut Builder, a: &mut Cursor<'_>) -> Result<(), NoMemory>
+pub fn keep_run(out: &mut Writer, a: &mut Cursor<'_>) -> Result<(), NoMemory>
     requires inserts { begins_with_insert a.old.ops ≡ true }
-    requires go { (b : Left) × (made : Text) × UnderWay made out.old a.old b }
-    ensures moves { OnOk result (Moves passes out.old.steps (steps_left a.old) out.new.steps (steps_left a.new)) }
+    requires go { (b : Left) × (made : Text) × IsGoing made out.old a.old b }
+    ensures moves { OnOk result (Moves passes (said out.old).steps (steps_left a.old) (said out.new).steps (steps_left a.new)) }
     ensures less { OnOk result (length (steps_left a.new) < length (steps_left a.old)) }
-    ensures go { OnOk result ((b : Left) (made : Text) → UnderWay made out.old a.old b → UnderWay made out.new a.new b) }
+    ensures go { OnOk result ((b : Left) (made : Text) → IsGoing made out.old a.old b → IsGoing made out.new a.new b) }
 {
     let Some(head) = a.head() else {
         return Ok(());
     };
-    out.keep_bare(head.units, head.lines)?;
+    out.keep_bare(head.units, head.lines);
     a.advance(head.units, head.lines);
     Ok(())
 }
 
 /// Keeps the piece that the first change inserts.
-fn keep_piece(out: &mut Builder, a: &mut Cursor<'_>) -> Result<(), NoMemory>
-    requires { (b : Left) × (made : Text) × UnderWay made out.old a.old b }
-    ensures out { OnOk result (out.new.steps ≡ out.old.steps ++ passes (piece (steps_left a.old))) }
+fn keep_piece(out: &mut Writer, a: &mut Cursor<'_>) -> Result<(), NoMemory>
+    requires { (b : Left) × (made : Text) × IsGoing made out.old a.old b }
+    ensures out { OnOk result ((said out.new).steps ≡ (said out.old).steps ++ passes (piece (steps_left a.old))) }
     ensures behind { OnOk result (steps_left a.new ≡ behind (steps_left a.old)) }
-    ensures go { OnOk result ((b : Left) (made : Text) → UnderWay made out.old a.old b → UnderWay made out.new a.new b) }
+    ensures go { OnOk result ((b : Left) (made : Text) → IsGoing made out.old a.old b → IsGoing made out.new a.new b) }
 {
     'runs: while inserts(a) {
         keep_run(out, a)?;
@@ -44,12 +45,12 @@ fn keep_piece(out: &mut Builder, a: &mut Cursor<'_>) -> Result<(), NoMemory>
 }
 
 /// Inserts a run of the second change.
-pub fn insert_run(out: &mut Builder, b: &mut Cursor<'_>) -> Result<(), NoMemory>
+pub fn insert_run(out: &mut Writer, b: &mut Cursor<'_>) -> Result<(), NoMemory>
     requires inserts { begins_with_insert b.old.ops ≡ true }
-    requires go { (a : Left) × (made : Text) × UnderWay made out.old a b.old }
-    ensures moves { OnOk result (Moves inserts out.old.steps (steps_left b.old) out.new.steps (steps_left b.new)) }
+    requires go { (a : Left) × (made : Text) × IsGoing made out.old a b.old }
+    ensures moves { OnOk result (Moves inserts (said out.old).steps (steps_left b.old) (said out.new).steps (steps_left b.new)) }
     ensures less { OnOk result (length (steps_left b.new) < length (steps_left b.old)) }
-    ensures go { OnOk result ((a : Left) (made : Text) → UnderWay made out.old a b.old → UnderWay made out.new a b.new) }
+    ensures go { OnOk result ((a : Left) (made : Text) → IsGoing made out.old a b.old → IsGoing made out.new a b.new) }
 {
     let Some(head) = b.head() else {
         return Ok(());
@@ -60,11 +61,11 @@ pub fn insert_run(out: &mut Builder, b: &mut Cursor<'_>) -> Result<(), NoMemory>
 }
 
 /// Inserts the piece of the second change.
-fn insert_piece(out: &mut Builder, b: &mut Cursor<'_>) -> Result<(), NoMemory>
-    requires { (a : Left) × (made : Text) × UnderWay made out.old a b.old }
-    ensures out { OnOk result (out.new.steps ≡ out.old.steps ++ inserts (piece (steps_left b.old))) }
+fn insert_piece(out: &mut Writer, b: &mut Cursor<'_>) -> Result<(), NoMemory>
+    requires { (a : Left) × (made : Text) × IsGoing made out.old a b.old }
+    ensures out { OnOk result ((said out.new).steps ≡ (said out.old).steps ++ inserts (piece (steps_left b.old))) }
     ensures behind { OnOk result (steps_left b.new ≡ behind (steps_left b.old)) }
-    ensures go { OnOk result ((a : Left) (made : Text) → UnderWay made out.old a b.old → UnderWay made out.new a b.new) }
+    ensures go { OnOk result ((a : Left) (made : Text) → IsGoing made out.old a b.old → IsGoing made out.new a b.new) }
 {
     'runs: while inserts(b) {
         insert_run(out, b)?;
@@ -74,16 +75,16 @@ fn insert_piece(out: &mut Builder, b: &mut Cursor<'_>) -> Result<(), NoMemory>
 
 /// Takes both pieces of the gap that comes next, in their order.
 pub fn gap(
-    out: &mut Builder,
+    out: &mut Writer,
     a: &mut Cursor<'_>,
     b: &mut Cursor<'_>,
     first: First,
 ) -> Result<(), NoMemory>
-    requires { (made : Text) × UnderWay made out.old a.old b.old }
-    ensures same { OnOk result (out.new.steps ++ followed (is_a first) (steps_left a.new) (steps_left b.new) ≡ out.old.steps ++ followed (is_a first) (steps_left a.old) (steps_left b.old)) }
+    requires { (made : Text) × IsGoing made out.old a.old b.old }
+    ensures same { OnOk result ((said out.new).steps ++ followed (is_a first) (steps_left a.new) (steps_left b.new) ≡ (said out.old).steps ++ followed (is_a first) (steps_left a.old) (steps_left b.old)) }
     ensures first { OnOk result (steps_left a.new ≡ behind (steps_left a.old)) }
     ensures second { OnOk result (steps_left b.new ≡ behind (steps_left b.old)) }
-    ensures go { OnOk result ((made : Text) → UnderWay made out.old a.old b.old → UnderWay made out.new a.new b.new) }
+    ensures go { OnOk result ((made : Text) → IsGoing made out.old a.old b.old → IsGoing made out.new a.new b.new) }
 {
     if goes_first(a, b, first) {
         keep_piece(out, a)?;

@@ -10,6 +10,7 @@ mod laws;
 mod rebasing;
 mod step;
 mod stretch;
+mod writer;
 
 pub use following::follow;
 pub use laws::{documents_meet, followers_meet};

@@ -3,13 +3,13 @@ use Rattle.ep_units.specs.Text.{Text}
 use Rattle.ep_cursor.specs.Left.{steps_left}
 use Rattle.ep_follow.specs.Follows.{is_a}
 use Rattle.ep_follow.specs.Gaps.{followed}
-use Rattle.ep_follow.specs.Following.{UnderWay}
+use Rattle.ep_follow.specs.Writing.{said, IsGoing}
 use Rattle.ep_follow.proofs.step.walk.Given as goal
 
 abbrev pub invariant-steps : goal.invariant-steps
 invariant-steps l = record {
-  same : l.out.steps ++ followed (is_a l.first) (steps_left l.a) (steps_left l.b) ≡ l.initial.out.steps ++ followed (is_a l.first) (steps_left l.initial.a) (steps_left l.initial.b);
-  go : (made : Text) → UnderWay made l.initial.out l.initial.a l.initial.b → UnderWay made l.out l.a l.b;
+  same : (said l.out).steps ++ followed (is_a l.first) (steps_left l.a) (steps_left l.b) ≡ (said l.initial.out).steps ++ followed (is_a l.first) (steps_left l.initial.a) (steps_left l.initial.b);
+  go : (made : Text) → IsGoing made l.initial.out l.initial.a l.initial.b → IsGoing made l.out l.a l.b;
 }
 
 abbrev pub decreases-steps : goal.decreases-steps
