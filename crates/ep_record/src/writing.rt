@@ -1,8 +1,7 @@
 //! Records written as bytes.
 
-ghost use Rattle.std.specs.Prelude.{◌≡◌, ◌<◌, ◌^◌, ℕ, slice_index, ◌++◌, ◌∷◌, [], true, take, length, IfOk, IfSome, OnOk, IsErrOf};
+ghost use Rattle.std.specs.Prelude.{◌≡◌, ◌<◌, ◌+◌, ◌^◌, ℕ, slice_index, ◌++◌, ◌∷◌, [], true, false, take, length, IfOk, OnOk, IsErrOf};
 ghost use Rattle.std.specs.List.{flat_map, AllByRecursion};
-ghost use Rattle.std.specs.Str.{IsAscii};
 ghost use Rattle.std.specs.String.{string_bytes};
 ghost use Rattle.ep_units.specs.Text.{is_well_formed};
 ghost use Rattle.ep_units.specs.Clean.{clean};
@@ -22,6 +21,9 @@ use std::alloc::Global;
 
 /// For how many bytes there is room at first: the record of a letter has fewer.
 const ROOM: usize = 128;
+
+/// A count has so many bytes.
+const COUNT: usize = 4;
 
 /// A text in a record has at most so many bytes.
 const MOST_BYTES: usize = u32::MAX as usize;
@@ -82,44 +84,48 @@ fn utf8(alloc: Global, us: &Units) -> Result<String, Fault>
     }
 }
 
-/// The units of a text of ASCII, which are its bytes, where they are few enough to be counted.
-fn ascii(us: &Units) -> Option<&[u16]>
-    ensures units { IfSome result (λ units. units.now ≡ us.now) }
-    ensures ascii { IfSome result (λ units. IsAscii units.now) }
-    ensures few { IfSome result (λ units. length units.now < 2 ^ 32) }
+/// Sets each byte to the low seven bits of its unit, and says whether no unit has more of them.
+fn narrow(units: &[u16], bytes: &mut [u8]) -> bool
+    requires { length units.now ≡ length bytes.old }
+    ensures ascii { result ≡ is_ascii units.now }
+    ensures bytes { result ≡ true → bytes.new ≡ units.now }
 {
-    let units = us.as_slice();
-    if units.len() <= MOST_BYTES && is_ascii(units) {
-        Some(units)
-    } else {
-        None
+    let mut ascii = true;
+    for i in 0..units.len() {
+        ascii &= units[i] < 128;
+        bytes[i] = (units[i] % 128) as u8;
     }
+    ascii
 }
 
-fn is_ascii(units: &[u16]) -> bool
-    ensures { result ≡ is_ascii units.now }
-{
-    units.iter().all(|unit| *unit < 128)
-}
-
-fn put_units(units: &[u16], out: &mut Vec<u8>) -> Result<(), Fault>
-    requires { IsAscii units.now }
-    ensures { Adds result out.old.items out.new.items units.now (Unit {0}) }
-{
-    out.reserve(units.len())?;
-    for unit in units {
-        out.push(*unit as u8)?;
-    }
-    Ok(())
-}
-
-fn put_ascii(units: &[u16], out: &mut Vec<u8>) -> Result<(), Fault>
-    requires ascii { IsAscii units.now }
+/// Sets the bytes to how many units there are, and to the units. Says whether these are ASCII.
+#[tactic(auto, unfolding(crate::specs::Bytes::count))]
+fn set_ascii(units: &[u16], bytes: &mut [u8]) -> bool
     requires few { length units.now < 2 ^ 32 }
-    ensures { Adds result out.old.items out.new.items (text units.now) (IsText units.now) }
+    requires room { length bytes.old ≡ COUNT + length units.now }
+    ensures ascii { result ≡ is_ascii units.now }
+    ensures bytes { result ≡ true → bytes.new ≡ count (length units.now) ++ units.now }
 {
-    put_count(units.len() as u32, out)?;
-    put_units(units, out)
+    let (count, rest) = bytes.split_at_mut(COUNT);
+    count.copy_from_slice(&(units.len() as u32).to_be_bytes());
+    narrow(units, rest)
+}
+
+/// Appends a text that is ASCII, whose bytes are its units. Otherwise it appends nothing, and says so.
+fn put_ascii(units: &[u16], out: &mut Vec<u8>) -> Result<bool, Fault>
+    requires { length units.now < 2 ^ 32 }
+    ensures put { IfOk result (λ ascii. ascii ≡ true → (out.new.items ≡ out.old.items ++ text units.now) × IsText units.now) }
+    ensures not { IfOk result (λ ascii. ascii ≡ false → out.new.items ≡ out.old.items) }
+    ensures memory { IsErrOf result (Fault.NoRecord) → ⊥ }
+{
+    let at = out.len();
+    out.resize(at + COUNT + units.len(), 0)?;
+    let (_, added) = out.split_at_mut(at);
+    let ascii = set_ascii(units, added);
+    if !ascii {
+        out.truncate(at);
+    }
+    Ok(ascii)
 }
 
 #[tactic(auto, unfolding(crate::specs::Bytes::text))]
@@ -136,10 +142,11 @@ fn put_utf8(alloc: Global, us: &Units, out: &mut Vec<u8>) -> Result<(), Fault>
 fn put_text(alloc: Global, us: &Units, out: &mut Vec<u8>) -> Result<(), Fault>
     ensures { Adds result out.old.items out.new.items (text us.now) (IsText us.now) }
 {
-    match ascii(us) {
-        Some(units) => put_ascii(units, out),
-        None => put_utf8(alloc, us, out),
+    let units = us.as_slice();
+    if units.len() <= MOST_BYTES && put_ascii(units, out)? {
+        return Ok(());
     }
+    put_utf8(alloc, us, out)
 }
 
 #[tactic(auto, unfolding(crate::specs::Bytes::pair))]
