@@ -97,7 +97,7 @@ high-append [] (v ∷ vs) h = refl
 high-append (u ∷ []) (v ∷ vs) h = refl
 high-append (u ∷ (w ∷ us)) (v ∷ vs) h = high-append (w ∷ us) (v ∷ vs) h
 
-no_line_behind : (us vs : Text) → count_lines us ≡ 0 → count_lines vs ≡ 0 → count_lines (us ++ vs) ≡ 0
+pub no_line_behind : (us vs : Text) → count_lines us ≡ 0 → count_lines vs ≡ 0 → count_lines (us ++ vs) ≡ 0
 no_line_behind us vs h k = omega (arith, h, k, lines-append us vs)
 
 -- two texts, of which the second has no newline

@@ -6,3 +6,4 @@ pub mod Inserted
 pub mod Again
 pub mod Blocks
 pub mod Documents
+pub mod Tails

@@ -9,6 +9,9 @@ ghost use Rattle.ep_apply.specs.PairEnds.{ends_high};
 use ep_cs::{count_lines, last_line};
 use ep_units::is_high;
 
+/// So many units are looked at at once.
+const GROUP: usize = 16;
+
 /// How many UTF-16 units a text has, how many newlines, and how many units behind the last newline; and whether it
 /// ends in the first half of a pair.
 #[derive(Clone, Copy)]
@@ -55,6 +58,22 @@ fn lines_of(text: &[u16]) -> u32
     }
 }
 
+/// The text without some of its last units, none of which is a newline: several are looked at at once.
+fn without_tail(text: &[u16]) -> &[u16]
+    ensures first { result.now ≡ take (length result.now) text.now }
+    ensures within { length result.now ≤ length text.now }
+    ensures behind { count_lines (drop (length result.now) text.now) ≡ 0 }
+{
+    let mut rest = text;
+    'groups: while let Some((front, last)) = rest.split_last_chunk::<GROUP>() {
+        if short_lines(last) > 0 {
+            return rest;
+        }
+        rest = front;
+    }
+    rest
+}
+
 /// How many units stand behind the last newline, of a text with so many newlines.
 fn tail_of(text: &[u16], lines: u32) -> u32
     requires short { length text.now < 2 ^ 32 }
@@ -66,7 +85,7 @@ fn tail_of(text: &[u16], lines: u32) -> u32
     if lines == 0 {
         text.len() as u32
     } else {
-        (text.len() - last_line(text)) as u32
+        (text.len() - last_line(without_tail(text))) as u32
     }
 }
 

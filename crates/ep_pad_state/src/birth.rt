@@ -76,11 +76,12 @@ impl Birth {
         let step = first_step(alloc, text, limit)?;
         let mut revs = Revs::new(alloc);
         revs.reserve_two()?;
+        let guesses = Guesses::none(alloc)?;
         push_all(&mut revs, step.into_revs_of_nobody(alloc, now));
         Ok(Birth {
             revs,
             nops: Nops::new(alloc),
-            guesses: Guesses::none(),
+            guesses,
         })
     }
 
