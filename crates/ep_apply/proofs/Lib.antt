@@ -7,3 +7,4 @@ pub mod Again
 pub mod Blocks
 pub mod Documents
 pub mod Tails
+pub mod Splices

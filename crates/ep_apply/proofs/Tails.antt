@@ -1,5 +1,5 @@
 -- What is left of a text without some last units that have no newline.
-use Rattle.std.proofs.Common.{ℕ, ◌≡◌, ◌≤◌, ◌+◌, ◌-◌, ◌++◌, true, length, take, drop, arith, sym, ap, ◌∙◌, subst}
+use Rattle.std.proofs.Common.{ℕ, ◌≡◌, ◌≤◌, ◌++◌, length, take, drop, sym, ap, ◌∙◌}
 use Rattle.std.proofs.lemmas.List.{take-append-drop, take-append-le, drop-append-le}
 use Rattle.ep_units.specs.Text.{Text}
 use Rattle.ep_cs.specs.Lines.{count_lines}
@@ -21,5 +21,5 @@ shorter us rest m r h z =
     let all = sym (whole us rest r) in
     let first : take m us ≡ take m rest = ap (take m) all ∙ take-append-le m rest behind h in
     let last : count_lines (drop m us) ≡ 0 =
-        ap (λ (x : Text). count_lines (drop m x)) all ∙ ap count_lines (drop-append-le m rest behind h) ∙ no_line_behind (drop m rest) behind z r.behind in
+    ap (λ (x : Text). count_lines (drop m x)) all ∙ ap count_lines (drop-append-le m rest behind h) ∙ no_line_behind (drop m rest) behind z r.behind in
     (first, last)

@@ -108,7 +108,7 @@ walk_more ops bank doc out new_out i at used p k o runs is h e p_is k_is out_is 
     (walk_step ops bank doc out _ i at used (at + p) (used + k) o runs is h e (ap (λ n. at + n) p_is) (ap (λ n. used + n) k_is)
     (λ j. run_makes o.kind o.attrs (take (ks j) (drop used bank)) (take (ps j) (drop at doc))))
 
-made_rest : (n : ℕ) (cs : List Cell) → length cs ≤ n → made (rest_kept n) cs ≡ map (λ c. painted c none) cs
+pub made_rest : (n : ℕ) (cs : List Cell) → length cs ≤ n → made (rest_kept n) cs ≡ map (λ c. painted c none) cs
 made_rest zero [] h = refl
 made_rest zero (c ∷ cs) h = absurd (omega arith)
 made_rest (suc n) [] h = made_rest n [] (omega arith)

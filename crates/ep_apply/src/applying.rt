@@ -1,6 +1,6 @@
 //! A change made to a document.
 
-ghost use Rattle.std.specs.Prelude.{◌≡◌, ◌+◌, ◌≤◌, ◌<◌, ◌^◌, ◌++◌, length, take, drop, OnOk, IfOk};
+ghost use Rattle.std.specs.Prelude.{◌≡◌, ◌+◌, ◌≤◌, ◌<◌, ◌^◌, ◌++◌, length, take, drop, OnOk, IfOk, IfSome};
 ghost use Rattle.ep_cs.specs.Edit.{apply};
 ghost use Rattle.ep_cs.specs.Fits.{Fits};
 ghost use Rattle.ep_cs.specs.Runs.{passed};
@@ -9,9 +9,10 @@ ghost use Rattle.ep_apply.specs.Makes.{run_makes};
 use crate::doc::Doc;
 use crate::moving::keep;
 use crate::reading::Reading;
+use crate::splice::Splice;
 use crate::writer::Writer;
 use ep_attr::AttrMap;
-use ep_cs::{Change, Kind, Op};
+use ep_cs::{Change, Kind, MOST_UNITS, Op};
 use ep_units::NoMemory;
 use std::alloc::Global;
 
@@ -38,8 +39,30 @@ fn apply_op(
     }
 }
 
-/// The document after a change that fits it. It shares the pages, groups and blocks in which nothing is altered.
-pub fn apply(alloc: Global, doc: &Doc, change: &Change) -> Result<Doc, NoMemory>
+/// The document after a change that is one splice in a block, where that stays a block.
+fn spliced(alloc: Global, doc: &Doc, change: &Change) -> Result<Option<Doc>, NoMemory>
+    requires { Fits change.now doc.now }
+    ensures { IfOk result (λ made. IfSome made (λ after. after ≡ apply change.now.edit doc.now)) }
+{
+    let bank = change.bank().as_slice();
+    if bank.len() > (MOST_UNITS - doc.len()) as usize {
+        return Ok(None);
+    }
+    let as_it_is = AttrMap::none(alloc);
+    let Some(splice) = Splice::of(change.ops(), bank, &as_it_is) else {
+        return Ok(None);
+    };
+    match doc.body.spliced(alloc, splice)? {
+        None => Ok(None),
+        Some(body) => Ok(Some(Doc {
+            body,
+            units: change.new_len(),
+        })),
+    }
+}
+
+/// The document after a change that fits it, walked from the first run to the last.
+fn walked(alloc: Global, doc: &Doc, change: &Change) -> Result<Doc, NoMemory>
     requires { Fits change.now doc.now }
     ensures { IfOk result (λ after. after ≡ apply change.now.edit doc.now) }
 {
@@ -61,6 +84,17 @@ pub fn apply(alloc: Global, doc: &Doc, change: &Change) -> Result<Doc, NoMemory>
         body,
         units: change.new_len(),
     })
+}
+
+/// The document after a change that fits it. It shares the pages, groups and blocks in which nothing is altered.
+pub fn apply(alloc: Global, doc: &Doc, change: &Change) -> Result<Doc, NoMemory>
+    requires { Fits change.now doc.now }
+    ensures { IfOk result (λ after. after ≡ apply change.now.edit doc.now) }
+{
+    match spliced(alloc, doc, change)? {
+        Some(after) => Ok(after),
+        None => walked(alloc, doc, change),
+    }
 }
 
 #[cfg(test)]

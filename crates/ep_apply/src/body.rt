@@ -1,12 +1,16 @@
 //! What a document is kept in.
 
-ghost use Rattle.std.specs.Prelude.{◌≡◌, [], IfOk};
+ghost use Rattle.std.specs.Prelude.{◌≡◌, ◌≤◌, ◌<◌, ◌^◌, ◌+◌, [], length, IfOk, IfSome};
+ghost use Rattle.ep_cs.specs.Runs.{cells};
 ghost use Rattle.ep_apply.specs.Blocks.{node_cells};
 ghost use Rattle.ep_apply.specs.Bodies.{body_cells};
+ghost use Rattle.ep_apply.specs.Splices.{spliced};
 
 use crate::ahead::Ahead;
 use crate::block::Block;
 use crate::node::{Group, Node, Page};
+use crate::splice::Splice;
+use crate::splicing::spliced;
 use ep_units::NoMemory;
 use std::alloc::Global;
 use std::sync::Arc;
@@ -72,6 +76,29 @@ impl Body {
             Body::Blocks(blocks) => Ok(Body::Blocks(share(alloc, blocks)?)),
             Body::Groups(groups) => Ok(Body::Groups(share(alloc, groups)?)),
             Body::Pages(pages) => Ok(Body::Pages(share(alloc, pages)?)),
+        }
+    }
+
+    /// All of it after a splice of units that one block has, where that stays a block.
+    pub fn spliced(&self, alloc: Global, splice: Splice<'_>) -> Result<Option<Body>, NoMemory>
+        requires inside { splice.at + splice.dropped ≤ length (body_cells self.now) }
+        requires short { length (body_cells self.now) + length splice.new.text.now < 2 ^ 32 }
+        ensures { IfOk result (λ made. IfSome made (λ body. body_cells body
+            ≡ spliced splice.entry.at splice.entry.dropped (cells splice.entry.new.attrs.now splice.entry.new.text.now) (body_cells self.now))) }
+    {
+        match self {
+            Body::Blocks(blocks) => match spliced(alloc, blocks, splice)? {
+                None => Ok(None),
+                Some(blocks) => Ok(Some(Body::Blocks(blocks))),
+            },
+            Body::Groups(groups) => match spliced(alloc, groups, splice)? {
+                None => Ok(None),
+                Some(groups) => Ok(Some(Body::Groups(groups))),
+            },
+            Body::Pages(pages) => match spliced(alloc, pages, splice)? {
+                None => Ok(None),
+                Some(pages) => Ok(Some(Body::Pages(pages))),
+            },
         }
     }
 }

@@ -16,6 +16,8 @@ mod passing;
 mod pile;
 mod reading;
 mod seen;
+mod splice;
+mod splicing;
 mod stack;
 mod writer;
 

@@ -1,12 +1,16 @@
 //! What documents share: blocks, groups of blocks, and pages of groups.
 
-ghost use Rattle.std.specs.Prelude.{◌≡◌, ◌≤◌, ◌<◌, ◌^◌, ◌++◌, List, [], length, OnOk, IfOk};
+ghost use Rattle.std.specs.Prelude.{◌≡◌, ◌≤◌, ◌<◌, ◌^◌, ◌+◌, ◌++◌, List, [], length, OnOk, IfOk, IfSome};
 ghost use Rattle.std.specs.Arc.{arc_value};
 ghost use Rattle.ep_cs.specs.Doc.{Cell, text_of};
+ghost use Rattle.ep_cs.specs.Runs.{cells as run_cells};
 ghost use Rattle.ep_apply.specs.Blocks.{Sees, node_cells, made};
+ghost use Rattle.ep_apply.specs.Splices.{spliced};
 
 use crate::block::Block;
 use crate::seen::Seen;
+use crate::splice::Splice;
+use crate::splicing::spliced;
 use ep_units::NoMemory;
 use std::alloc::Global;
 use std::marker::Model;
@@ -21,6 +25,13 @@ pub trait Node: Drop {
     fn seen(&self) -> Seen
         ensures seen { Sees result (text_of (cells self.now)) }
         ensures some { 1 ≤ result.units };
+
+    /// The node after a splice of it, where it stays a node.
+    fn spliced(&self, alloc: Global, splice: Splice<'_>) -> Result<Option<Self>, NoMemory>
+        requires inside { splice.at + splice.dropped ≤ length (cells self.now) }
+        requires short { length (cells self.now) + length splice.new.text.now < 2 ^ 32 }
+        ensures made { IfOk result (λ made. IfSome made (λ node. cells node
+            ≡ spliced splice.entry.at splice.entry.dropped (run_cells splice.entry.new.attrs.now splice.entry.new.text.now) (cells self.now))) };
 }
 
 /// Nodes one behind another, at least one, and what is seen of their text.
@@ -78,6 +89,20 @@ impl<T: Node> Node for Nodes<T> {
 
     fn seen(&self) -> Seen {
         self.seen
+    }
+
+    fn spliced(&self, alloc: Global, splice: Splice<'_>) -> Result<Option<Nodes<T>>, NoMemory> {
+        match spliced(alloc, self.items.as_slice(), splice)? {
+            None => Ok(None),
+            Some(items) => {
+                let seen = seen_of(items.as_slice());
+                Ok(if seen.units == 0 {
+                    None
+                } else {
+                    Some(Nodes { seen, items })
+                })
+            }
+        }
     }
 }
 

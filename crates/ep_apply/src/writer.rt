@@ -6,7 +6,7 @@ ghost use Rattle.ep_cs.specs.Runs.{cells};
 ghost use Rattle.ep_apply.specs.Blocks.{all_cells};
 ghost use Rattle.ep_apply.specs.Bodies.{body_cells};
 
-use crate::block::Block;
+use crate::block::{Block, MOST};
 use crate::body::Body;
 use crate::node::{Group, Node, Page};
 use crate::pile::Pile;
@@ -17,9 +17,6 @@ use std::alloc::Global;
 use std::marker::Model;
 use std::mem;
 use std::sync::Arc;
-
-/// How many units a block has at most.
-const MOST: usize = 512;
 
 /// In how large parts a text is put that is too long for a block, so that it may still grow.
 const PART: usize = 384;

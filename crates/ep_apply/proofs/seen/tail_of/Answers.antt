@@ -10,4 +10,4 @@ returns-else-lines-eq0-clause-behind c =
     let m = c.last_line.result in
     let at : length text - (length text - m) ≡ m = omega (arith, rest.within, c.last_line.ensures.within) in
     ap (λ n. count_lines (drop n text)) at
-    ∙ (shorter text c.without_tail.result.now m (record { first = rest.first; within = rest.within; behind = rest.behind; }) c.last_line.ensures.within c.last_line.ensures.behind).1
+    ∙ (shorter text c.without_tail.result.now m (record { first = rest.first; within = rest.within; behind = rest.behind }) c.last_line.ensures.within c.last_line.ensures.behind).1

@@ -8,7 +8,7 @@ use Rattle.ep_apply.specs.Bodies.{body_cells}
 use Rattle.ep_apply.specs.Makes.{run_makes}
 use Rattle.ep_apply.proofs.Documents.{document_is, document_made}
 use Rattle.ep_apply.proofs.Walk.{walk_of, begin, go_on, run_short, over_all, end_short, length_after}
-use Rattle.ep_apply.proofs.applying.apply.Goals as goal
+use Rattle.ep_apply.proofs.applying.walked.Goals as goal
 
 pub loop-op-init : goal.loop-op-init
 loop-op-init c =
