@@ -1,9 +1,9 @@
 #!/usr/bin/env python3
 """Times ep_bench beside programs that do the same work, and prints the ratios.
 
-compare.py PROGRAM PEERS FLOOR: PEERS is a folder with js-easysync/bench.js. FLOOR is a program in plain Rust that does the
-least that an operation needs; it is given a folder that it may write in. Both print a line an item: name, operations per
-second, microseconds each, note, with tabs between.
+compare.py PROGRAM PEERS FLOOR TAKING: PEERS is a folder with js-easysync. FLOOR is a program in plain Rust that does the
+least that an operation needs; it is given a folder that it may write in. TAKING is taking.rs of this folder, built. These and
+the JavaScript programs print a line an item: name, operations per second, microseconds each, note, with tabs between.
 """
 
 import os
@@ -41,6 +41,14 @@ ITEMS = [
     ("print what a client is told, 1,000,000 units, runs of 50", "print-vars", 1_000_000, 20, ["1MB/print-vars"], None),
 ]
 
+# name, units, how many revisions behind the head, count, and items of the JavaScript program and of plain Rust
+TAKES = [
+    ("take a letter at the head of 10,000 units", 10_000, 0, 300, "10KB/take0", ["10KB/take by copying", "10KB/take in blocks", "10KB/flat apply"]),
+    ("1,000 revisions behind the head of 10,000 units", 10_000, 1_000, 50, "10KB/take1000", ["rebase1000"]),
+    ("at the head of 1,000,000 units", 1_000_000, 0, 300, "1MB/take0", ["1MB/take by copying", "1MB/take in blocks", "1MB/flat apply"]),
+    ("1,000 revisions behind the head of 1,000,000 units", 1_000_000, 1_000, 50, "1MB/take1000", ["rebase1000"]),
+]
+
 # how many of the single operations that the others time there are in one of ours
 PARTS = {"slide": 9_999, "hear": 1_000}
 
@@ -56,6 +64,23 @@ def seconds(program, word, units, count):
     return best
 
 
+def call_microseconds(program, units, behind, count):
+    """The microseconds of each take alone, as the program says: the best of nine runs."""
+    command = [program, "accept", str(units), str(behind), str(count)]
+    spent = [int(subprocess.run(command, check=True, capture_output=True, text=True).stderr.split()[0]) for _ in range(9)]
+    return min(spent) / count / 1e3
+
+
+def compare_takes(program, theirs, least):
+    """Prints how long takes last, beside JavaScript, which keeps no record, and plain Rust, which has no disk."""
+    for name, units, behind, count, item, floors in TAKES:
+        ours = call_microseconds(program, units, behind, count)
+        line = f"{name}: {ours:.3f} us; JavaScript {theirs[item]:.3f} us, {theirs[item] / ours:.1f} times"
+        for floor in floors:
+            line += f"; plain Rust, {floor.split('/')[-1]}, {least[floor]:.3f} us, we take {ours / least[floor]:.2f} times"
+        print(line)
+
+
 def microseconds(command, runs):
     """The microseconds of each item of a program, by its name: the best of so many runs."""
     best = {}
@@ -69,13 +94,13 @@ def microseconds(command, runs):
 
 
 def main():
-    program, peers, floor_program = sys.argv[1:4]
+    program, peers, floor_program, taking = sys.argv[1:5]
     theirs = microseconds(["node", f"{peers}/js-easysync/bench.js", "0.5"], 3)
     own = os.path.dirname(os.path.abspath(__file__))
-    for script, runs in ("hear.js", 1), ("messages.js", 3):
+    for script, runs in ("hear.js", 1), ("messages.js", 3), ("taking.js", 3):
         theirs |= microseconds(["node", f"{own}/{script}", peers, "3"], runs)
     with tempfile.TemporaryDirectory() as folder:
-        least = microseconds([floor_program, folder], 5)
+        least = microseconds([floor_program, folder], 5) | microseconds([taking], 3)
     for name, word, units, count, items, floor in ITEMS:
         spent = seconds(program, word, units, count) - seconds(program, word, units, 0)
         ours = spent / count / PARTS.get(word, 1) * 1e6
@@ -86,6 +111,7 @@ def main():
         if floor in least:
             line += f"; plain Rust {least[floor]:.3f} us, we take {ours / least[floor]:.2f} times"
         print(line)
+    compare_takes(program, theirs, least)
 
 
 main()

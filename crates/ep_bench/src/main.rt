@@ -8,6 +8,7 @@ mod draws;
 mod hearing;
 mod journal;
 mod messages;
+mod pads;
 mod revising;
 mod two;
 mod typing;
@@ -32,7 +33,7 @@ fn checksum(rt: &HostRuntime) -> Result<u64> {
 }
 
 fn main(rt: HostRuntime) -> Result<()> {
-    if journal::run(&rt)? {
+    if journal::run(&rt)? || pads::run(&rt)? {
         return Ok(());
     }
     if let Some(count) = cells::asked(&rt)? {

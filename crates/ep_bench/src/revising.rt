@@ -10,13 +10,13 @@ use ep_units::{Session, Units};
 use std::alloc::Global;
 
 /// An author's id, as long as they are.
-const AUTHOR: &str = "a.s8oes9dhwrvt0zif";
+pub const AUTHOR: &str = "a.s8oes9dhwrvt0zif";
 
 /// The session that types.
 const SESSION: Session = Session { epoch: 1, count: 1 };
 
 /// A moment in 2026, in milliseconds since 1970.
-const NOW: u64 = 1_790_000_000_000;
+pub const NOW: u64 = 1_790_000_000_000;
 
 /// The record of one letter that is typed into a document of so many units.
 fn small_record(alloc: Global, units: u32) -> Result<Record> {

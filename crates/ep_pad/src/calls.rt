@@ -54,7 +54,7 @@ impl<D: Disk> PadMachine<D> {
         now: u64,
     ) -> Result<Committed, PadBad>
         ensures steps { StepsOver D.told D.failures D.moment D.since D.is_steady D.stops_alone D.left self.old (Accept session base change now) (λ x. CommitAnswer (told_by x)) result self.new }
-        // An open machine takes no memory from the first device call on: where memory is wanting, none was made.
+        // Where memory is wanting, an open machine made no device call.
         ensures unmade { self.old.is_open ≡ true → IfErr result (λ bad. bad ≡ lacks.NoMemory → IsUncalled D.told D.failures D.left self.old.disk self.new.disk) }
     {
         self.wake()?;

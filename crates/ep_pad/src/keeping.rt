@@ -16,8 +16,8 @@ use ep_outside::Disk;
 use ep_pad_state::Ready;
 
 impl<D: Disk> PadMachine<D> {
-    /// Appends the record of a call that isn't refused, and then makes its change. It takes no memory from the first
-    /// device call on: where memory is wanting none was made.
+    /// Appends the record of a call that isn't refused, and then makes its change. Where memory
+    /// is wanting no device call was made.
     pub(crate) fn keep<A: Drop>(&mut self, ready: Ready<A>) -> Result<A, PadBad>
         requires open { self.old.is_open ≡ true }
         requires ready { IsReady self.old.pad ready.change }
