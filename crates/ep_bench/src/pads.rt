@@ -140,18 +140,21 @@ fn taken(rt: &HostRuntime, units: u32, behind: u64, edits: u64) -> Result<()> {
     Ok(())
 }
 
+/// The head of a pad that is opened, and how long that took.
+fn open_in_time<D: Disk + Drop>(rt: &HostRuntime, disk: D) -> Result<(u64, Duration)> {
+    let start = Instant::now(rt)?;
+    let mut pad = opened(rt.alloc(), disk)?;
+    let spent = start.elapsed(rt)?;
+    Ok((head(&mut pad)?, spent))
+}
+
 /// A pad of so many revisions that is opened.
 fn reopened(rt: &HostRuntime, revisions: u64) -> Result<()> {
-    let alloc = rt.alloc();
-    let mut typist = Typist::new(alloc, SMALL)?;
+    let mut typist = Typist::new(rt.alloc(), SMALL)?;
     typist.types_all(rt, 0, revisions)?;
-    let disk = typist.pad.into_disk();
-    let start = Instant::now(rt)?;
-    let mut pad = opened(alloc, disk)?;
-    let spent = start.elapsed(rt)?.as_nanos();
-    let head = head(&mut pad)?;
+    let (head, spent) = open_in_time(rt, typist.pad.into_disk())?;
     println!(rt; "opened at revision {head}")?;
-    eprintln!(rt; "{spent} ns")?;
+    eprintln!(rt; "{} ns", spent.as_nanos())?;
     Ok(())
 }
 
