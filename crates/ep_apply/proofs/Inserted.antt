@@ -14,7 +14,7 @@ use Rattle.ep_cs.specs.Change.{Change, change_with}
 use Rattle.ep_cs.proofs.Canonical.{settle-inserts}
 use Rattle.ep_cs.proofs.Drafts.{inserted-append}
 use Rattle.ep_apply.specs.Documents.{HasNoEmpty, insertion, inserting_all}
-use Rattle.ep_apply.proofs.Pieces.{length_cells}
+use Rattle.ep_blocks.proofs.Pieces.{length_cells}
 
 -- what is left of a document is still to be inserted
 pub record IsInserting (doc : List Cell) (start d : Draft) (rest : List Cell) : Type 0 where

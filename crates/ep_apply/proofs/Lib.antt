@@ -1,10 +1,8 @@
-pub mod Pieces
+pub mod Painted
 pub mod Walk
 pub mod Ends
 pub mod Refusals
 pub mod Inserted
 pub mod Again
-pub mod Blocks
 pub mod Documents
-pub mod Tails
 pub mod Splices

@@ -1,6 +1,6 @@
 -- Pairs that are cut, seen run by run: why a change doesn't fit.
-use Rattle.std.proofs.Common.{◌≡◌, ℕ, suc, ◌-◌, ◌≤◌, inl, List, [], ◌∷◌, length, get_or, Option, Some, None, refl, sym, ap, ◌∙◌, arith}
-use Rattle.ep_units.specs.Text.{Text, is_high}
+use Rattle.std.proofs.Common.{◌≡◌, ℕ, ◌-◌, inl, List, [], length, Option, Some, None, refl, sym, ap, ◌∙◌, arith}
+use Rattle.ep_units.specs.Text.{Text}
 use Rattle.ep_cs.specs.Doc.{Doc, text_of}
 use Rattle.ep_cs.specs.Fitting.{first_untrue, first_cut, cuts, untrue_or, fit_bad}
 use Rattle.ep_cs.specs.Change.{Change, bank_of}
@@ -8,13 +8,8 @@ use Rattle.ep_cs.specs.NormalRuns.{IsNormal}
 use Rattle.ep_cs.specs.Runs.{all_passed}
 use Rattle.ep_cs.specs.declared.op.Op.{Op}
 use Rattle.ep_cs.proofs.Refusals.{length_text, same_change, inside, trues_of, at_length}
-use Rattle.ep_apply.specs.PairEnds.{first_end, ends_high, runs_bad}
+use Rattle.ep_apply.specs.PairEnds.{first_end, runs_bad}
 use Rattle.ep_apply.proofs.Ends.{ends_are}
-
-pub last_high : (us : Text) → 1 ≤ length us → ends_high us ≡ is_high (get_or us (length us - 1) 0)
-last_high [] h = absurd (omega (arith, h))
-last_high (u ∷ []) h = refl
-last_high (u ∷ (v ∷ us)) h = last_high (v ∷ us) (omega arith) ∙ ap (λ (k : ℕ). is_high (get_or (u ∷ (v ∷ us)) k 0)) (let e : suc (length (v ∷ us) - 1) ≡ length (u ∷ (v ∷ us)) - 1 = omega arith in e)
 
 pub cut_is : (c : Change) (doc : Doc) → IsNormal c → length doc ≡ length c.edit.places → first_untrue 0 c.runs (text_of doc) ≡ None → first_cut 0 c.edit.places (text_of doc) ≡ first_end 0 c.runs (text_of doc)
 cut_is c doc normal e none =

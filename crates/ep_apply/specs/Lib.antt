@@ -1,5 +1,3 @@
-pub mod Blocks
-pub mod Bodies
 pub mod Makes
 pub mod Inside
 pub mod PairEnds

@@ -1,15 +1,11 @@
 -- Working words of the walk over runs: where pairs are cut, seen run by run, and so the first reason why runs don't fit a text.
-use Rattle.std.specs.Prelude.{ℕ, ◌+◌, Bool, false, List, [], ◌∷◌, length, take, drop, if◌then◌else◌, Option, Some, None}
-use Rattle.ep_units.specs.Text.{Text, is_high}
+use Rattle.std.specs.Prelude.{ℕ, ◌+◌, Bool, List, [], ◌∷◌, length, take, drop, if◌then◌else◌, Option, Some, None}
+use Rattle.ep_units.specs.Text.{Text}
 use Rattle.ep_cs.specs.Runs.{passed}
 use Rattle.ep_cs.specs.declared.op.Op.{Op}
 use Rattle.ep_cs.specs.declared.bad.FitBad.{FitBad}
 use Rattle.ep_cs.specs.Fitting.{first_untrue, cuts, untrue_or}
-
-abbrev pub ends_high : Text → Bool
-ends_high [] = false
-ends_high (u ∷ []) = is_high u
-ends_high (u ∷ (v ∷ us)) = ends_high (v ∷ us)
+use Rattle.ep_seen.specs.Seen.{ends_high}
 
 -- the first pair that ends with a run
 abbrev pub first_end : ℕ → List Op → Text → Option ℕ

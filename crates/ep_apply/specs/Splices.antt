@@ -1,20 +1,14 @@
--- Working words of private contracts: a splice of a document, the runs that are one, and the node that has it.
-use Rattle.std.specs.Prelude.{◌≡◌, ℕ, ◌+◌, ◌≤◌, ◌<◌, true, List, ◌∷◌, [], ◌++◌, length, take, drop}
-use Rattle.std.specs.declared.sync.Arc.{Arc}
-use Rattle.std.specs.declared.alloc.Global.{Global}
+-- Working words of private contracts: the runs that are one splice.
+use Rattle.std.specs.Prelude.{◌≡◌, ℕ, ◌+◌, ◌≤◌, true, List, ◌∷◌, [], ◌++◌, length}
 use Rattle.ep_units.specs.Text.{Text}
 use Rattle.ep_attr.specs.AttrMap.{is_none}
 use Rattle.ep_cs.specs.Doc.{Cell}
 use Rattle.ep_cs.specs.Edit.{apply}
 use Rattle.ep_cs.specs.Runs.{all_passed}
+use Rattle.ep_parts.specs.Splices.{spliced}
 use Rattle.ep_cs.specs.Change.{change_of}
 use Rattle.ep_cs.specs.declared.op.Kind.{Kind}
 use Rattle.ep_cs.specs.declared.op.Op.{Op}
-use Rattle.ep_apply.specs.Blocks.{node_cells}
-
--- cells after so many of them at a place went, and others came for them
-abbrev pub spliced : ℕ → ℕ → List Cell → List Cell → List Cell
-spliced at dropped new cs = take at cs ++ (new ++ drop (at + dropped) cs)
 
 -- runs of one kind, which give no map
 abbrev pub AreBare : Kind → List Op → Type 0
@@ -32,10 +26,3 @@ pub record BeginWith (k : Kind) (ops : List Op) (units : ℕ) (rest : List Op) :
 pub record AreSplice (ops : List Op) (bank : Text) (at dropped : ℕ) (new : List Cell) : Type 0 where
   pub inside : at + dropped ≡ all_passed ops
   pub is : (doc : List Cell) → all_passed ops ≤ length doc → apply (change_of (length doc) ops bank).edit doc ≡ spliced at dropped new doc
-
--- one of some nodes has the units between two places, and so many stand before it
-pub record HasPlace {A : Type 0} (cells : A → List Cell) (nodes : List (Arc A Global)) (at end index before : ℕ) : Type 0 where
-  pub there : index < length nodes
-  pub count : before ≡ length (node_cells cells (take index nodes))
-  pub begins : before ≤ at
-  pub ends : end ≤ length (node_cells cells (take (index + 1) nodes))

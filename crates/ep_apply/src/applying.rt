@@ -8,10 +8,9 @@ ghost use Rattle.ep_apply.specs.Makes.{run_makes};
 
 use crate::doc::Doc;
 use crate::moving::keep;
-use crate::reading::Reading;
-use crate::splice::Splice;
-use crate::writer::Writer;
+use crate::splice::splice_of;
 use ep_attr::AttrMap;
+use ep_blocks::{Reading, Writer};
 use ep_cs::{Change, Kind, MOST_UNITS, Op};
 use ep_units::NoMemory;
 use std::alloc::Global;
@@ -49,7 +48,7 @@ fn spliced(alloc: Global, doc: &Doc, change: &Change) -> Result<Option<Doc>, NoM
         return Ok(None);
     }
     let as_it_is = AttrMap::none(alloc);
-    let Some(splice) = Splice::of(change.ops(), bank, &as_it_is) else {
+    let Some(splice) = splice_of(change.ops(), bank, &as_it_is) else {
         return Ok(None);
     };
     match doc.body.spliced(alloc, splice)? {
@@ -66,7 +65,7 @@ fn walked(alloc: Global, doc: &Doc, change: &Change) -> Result<Doc, NoMemory>
     requires { Fits change.now doc.now }
     ensures { IfOk result (λ after. after ≡ apply change.now.edit doc.now) }
 {
-    let mut out = doc.writer(alloc)?;
+    let mut out = doc.body.writer(alloc)?;
     let mut rest = doc.reading();
     let bank = change.bank().as_slice();
     let mut at = 0;

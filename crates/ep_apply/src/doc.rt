@@ -5,20 +5,16 @@ ghost use Rattle.ep_cs.specs.Doc.{text_of};
 ghost use Rattle.ep_cs.specs.Plain.{plain};
 ghost use Rattle.ep_apply.specs.Documents.{IsDocument, insertion};
 
-use crate::body::Body;
-use crate::passing::Passing;
-use crate::reading::Reading;
-use crate::writer::Writer;
 use ep_attr::AttrMap;
+use ep_blocks::{Body, Passing, Reading, Writer};
 use ep_cs::{Builder, Change};
-use ep_parts::Within;
 use ep_units::{NoMemory, Units};
 use std::alloc::Global;
 use std::marker::Model;
 
 /// Attributed text: no half of a pair stands alone, the halves of a pair have equal maps, and no map has an empty value.
 ///
-/// It stands in pages of at most 9 groups of at most 16 blocks of at most 512 UTF-16 units; one that is short stands in groups
+/// It stands in pages of at most 12 groups of at most 8 blocks of at most 512 UTF-16 units; one that is short stands in groups
 /// or blocks. Documents share pages, groups and blocks.
 #[derive(Drop)]
 pub struct Doc {
@@ -77,12 +73,7 @@ impl Doc {
     pub fn text(&self, alloc: Global) -> Result<Units, NoMemory>
         ensures { IfOk result (λ text. text ≡ text_of self.now) }
     {
-        let mut text = Units::with_capacity(alloc, self.units as usize)?;
-        let mut rest = self.body.ahead();
-        'all: while let Some(block) = rest.take() {
-            text.push_all(block.text())?;
-        }
-        Ok(text)
+        self.body.text(alloc, self.units as usize)
     }
 
     /// The same document again, which shares all its groups.
@@ -113,26 +104,13 @@ impl Doc {
         ensures document { IsDocument self.now }
         ensures short { length self.now < 2 ^ 32 }
     {
-        Reading {
-            here: Within::nothing(),
-            ahead: self.body.ahead(),
-        }
+        self.body.reading()
     }
 
     /// Its text, to be passed from its first unit to its last.
     pub fn passing(&self) -> Passing<'_>
         ensures { result ≡ text_of self.now }
     {
-        Passing {
-            here: &[],
-            ahead: self.body.ahead(),
-        }
-    }
-
-    /// Nothing written yet, with room for what a change makes of it.
-    pub(crate) fn writer(&self, alloc: Global) -> Result<Writer, NoMemory>
-        ensures { IfOk result (λ w. w ≡ []) }
-    {
-        Writer::with_room(alloc, self.body.pages())
+        self.body.passing()
     }
 }

@@ -4,13 +4,12 @@ ghost use Rattle.std.specs.Prelude.{◌≡◌, ◌↔◌, ◌≤◌, length, tak
 ghost use Rattle.ep_units.specs.Text.{Text};
 ghost use Rattle.ep_cs.specs.Fits.{Fits};
 ghost use Rattle.ep_cs.specs.Runs.{all_passed, passed};
-ghost use Rattle.ep_apply.specs.Blocks.{Sees};
 ghost use Rattle.ep_cs.specs.Fitting.{answer, first_untrue, fit_bad, is_true};
+ghost use Rattle.ep_seen.specs.Seen.{Sees};
 ghost use Rattle.ep_apply.specs.PairEnds.{cut_at, first_end, first_of, runs_bad};
 
 use crate::doc::Doc;
-use crate::passing::Passing;
-use crate::seen::Seen;
+use ep_blocks::{Passing, Seen};
 use ep_cs::{Change, FitBad, Kind, Op};
 
 /// Whether what an operation says of the units that it passes is true.

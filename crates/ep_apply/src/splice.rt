@@ -1,21 +1,13 @@
-//! A splice: so many units at a place go, and a text comes for them.
+//! Operations that are one splice.
 
-ghost use Rattle.std.specs.Prelude.{◌≡◌, ◌≤◌, ◌<◌, ◌^◌, ◌-◌, true, length, IfSome};
+ghost use Rattle.std.specs.Prelude.{◌≡◌, ◌<◌, ◌^◌, true, length, IfSome};
 ghost use Rattle.ep_attr.specs.AttrMap.{is_none};
 ghost use Rattle.ep_cs.specs.Runs.{cells, all_passed, all_inserted};
 ghost use Rattle.ep_apply.specs.Splices.{AreSplice, BeginWith};
 
 use ep_attr::AttrMap;
+use ep_blocks::{Splice, Stretch};
 use ep_cs::{Kind, Op};
-use ep_parts::Stretch;
-
-/// So many units at a place go, and these come for them.
-#[derive(Clone, Copy)]
-pub struct Splice<'a> {
-    pub at: u32,
-    pub dropped: u32,
-    pub new: Stretch<'a>,
-}
 
 /// How many units the first of some operations pass, and the others.
 #[derive(Clone, Copy)]
@@ -52,42 +44,26 @@ fn first_runs(ops: &[Op], kind: Kind) -> Begun<'_>
     Begun { units, rest }
 }
 
-impl<'a> Splice<'a> {
-    /// What operations do, where that is one splice. `none` is the map without pairs.
-    pub fn of(ops: &'a [Op], bank: &'a [u16], none: &'a AttrMap) -> Option<Splice<'a>>
-        requires short { all_passed ops.now < 2 ^ 32 }
-        requires bank { all_inserted ops.now ≡ length bank.now }
-        ensures is { IfSome result (λ s. AreSplice ops.now bank.now s.at s.dropped (cells s.new.attrs.now s.new.text.now)) }
-        ensures text { IfSome result (λ s. length s.new.text.now ≡ length bank.now) }
-    {
-        let kept = first_runs(ops, Kind::Keep);
-        let gone = first_runs(kept.rest, Kind::Drop);
-        let attrs = match gone.rest {
-            [] => none,
-            [op] => match op.kind {
-                Kind::Insert => &op.attrs,
-                _ => return None,
-            },
+/// What operations do, where that is one splice. `none` is the map without pairs.
+pub fn splice_of<'a>(ops: &'a [Op], bank: &'a [u16], none: &'a AttrMap) -> Option<Splice<'a>>
+    requires short { all_passed ops.now < 2 ^ 32 }
+    requires bank { all_inserted ops.now ≡ length bank.now }
+    ensures is { IfSome result (λ s. AreSplice ops.now bank.now s.at s.dropped (cells s.new.attrs.now s.new.text.now)) }
+    ensures text { IfSome result (λ s. length s.new.text.now ≡ length bank.now) }
+{
+    let kept = first_runs(ops, Kind::Keep);
+    let gone = first_runs(kept.rest, Kind::Drop);
+    let attrs = match gone.rest {
+        [] => none,
+        [op] => match op.kind {
+            Kind::Insert => &op.attrs,
             _ => return None,
-        };
-        Some(Splice {
-            at: kept.units,
-            dropped: gone.units,
-            new: Stretch { text: bank, attrs },
-        })
-    }
-
-    /// The same of what stands behind so many units.
-    pub fn behind(self, before: u32) -> Splice<'a>
-        requires { before ≤ self.at }
-        ensures at { result.at ≡ self.entry.at - before }
-        ensures dropped { result.dropped ≡ self.entry.dropped }
-        ensures new { result.new ≡ self.entry.new }
-    {
-        Splice {
-            at: self.at - before,
-            dropped: self.dropped,
-            new: self.new,
-        }
-    }
+        },
+        _ => return None,
+    };
+    Some(Splice {
+        at: kept.units,
+        dropped: gone.units,
+        new: Stretch { text: bank, attrs },
+    })
 }

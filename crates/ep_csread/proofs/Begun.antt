@@ -1,22 +1,18 @@
 -- Where the syntax of changeset text stops, the units before that place begin some text.
-use Rattle.std.proofs.Common.{◌≡◌, ℕ, zero, suc, ◌+◌, ◌-◌, ◌<◌, ◌≤◌, Bool, true, false, true≢false, cond, not, eqb, ◌&&◌, ◌⊎◌, inl, inr, Option, Some, None, List, [], ◌∷◌, ◌++◌, length, take, Result, Ok, Err, IfErr, refl, sym, ap, ap₂, subst, ◌∙◌, arith, append_assoc, length-append}
-use Rattle.std.specs.List.{list_all}
-use Rattle.std.proofs.lemmas.Bool.{and_from, and_parts, eqb-true}
+use Rattle.std.proofs.Common.{◌≡◌, ℕ, ◌-◌, Bool, true, false, cond, not, eqb, ◌&&◌, inl, inr, None, List, [], ◌∷◌, ◌++◌, length, take, Result, Ok, Err, IfErr, refl, sym, ap, ap₂, subst, ◌∙◌, arith, length-append}
+use Rattle.std.proofs.lemmas.Bool.{and_parts, eqb-true}
 use Rattle.ep_units.specs.Text.{Text}
-use Rattle.ep_units.specs.Base36.{is_digit, digits_of, behind}
-use Rattle.ep_csread.specs.Syntax.{◌>>=◌, Operation, Parts, number_in, number_at, begins_with, begins_star, goes_on, star_at, stars_at, lines_at, kind_at, op_at, ops_at, sign_at, unit_at, parts_of, many}
-use Rattle.ep_csread.specs.Grammar.{Writing, IsWritten, BeginsSome, SyntaxEnds}
+use Rattle.ep_units.specs.Base36.{is_digit}
+use Rattle.ep_csread.specs.Syntax.{◌>>=◌, Parts, number_at, begins_with, begins_star, goes_on, star_at, stars_at, lines_at, kind_at, op_at, unit_at, parts_of}
+use Rattle.ep_csread.specs.Grammar.{IsWritten, BeginsSome, SyntaxEnds}
 use Rattle.ep_attr.specs.AttrMap.{Pair}
 use Rattle.ep_csread.specs.Answer.{IsRefused}
 use Rattle.ep_csread.specs.Reading.{reading}
 use Rattle.ep_csread.specs.declared.bad.ReadBad.{ReadBad}
 use Rattle.ep_csread.specs.declared.bad.ReadBad.TheVariants.{Syntax}
-use Rattle.ep_csread.proofs.Many.{Shortens}
-use Rattle.ep_csread.proofs.Numbers.{number_shorter}
 use Rattle.ep_csread.proofs.Shorter.{star_shortens, op_shortens}
-use Rattle.ep_csread.proofs.Takes.{only_digits, split_digits, text_takes, writing_of}
-use Rattle.ep_csread.proofs.Follows.{begins_digit, digits_end}
-use Rattle.ep_csread.proofs.Local.{Reader, okay, stop, then, head, got, left_of, rest_of, number, one, all, unfolded, shorter_one, behind_stops, is_kind, kind_is, op_parts, op_is, is_sign, sign_is, unit_is, ops, sign as sign_of, text_parts, text_fault, fault_of, fault_is, syntax_left, syntax_none, syntax_stops}
+use Rattle.ep_csread.proofs.Takes.{text_takes, writing_of}
+use Rattle.ep_csread.proofs.Local.{Reader, okay, stop, then, head, got, left_of, rest_of, number, is_kind, kind_is, op_is, is_sign, sign_is, unit_is, ops, sign as sign_of, text_parts, text_fault, fault_of, fault_is, syntax_left, syntax_none, syntax_stops}
 use Rattle.ep_csread.proofs.Mended.{Test, ByHead, Starts, not_true, Extended, Mended, Mends, Fresh, Takes, same_mends, same_fresh, after, after_takes, after_fresh, after_none, anything, head_mends, head_fresh, head_takes, no_digit, no_digit_head, digits_then, number_extend, number_mend, number_mends, number_fresh, number_takes, many_mends, many_skips}
 
 -- ---- stars and lines

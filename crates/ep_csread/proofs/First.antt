@@ -1,9 +1,8 @@
 -- The first of what a test finds.
-use Rattle.std.proofs.Common.{◌≡◌, ℕ, suc, ◌+◌, ◌-◌, ◌<◌, Bool, true, false, cond, List, [], ◌∷◌, ◌++◌, length, get_or, drop, Option, Some, None, refl, sym, ap, ◌∙◌, arith}
+use Rattle.std.proofs.Common.{◌≡◌, ℕ, ◌+◌, ◌<◌, Bool, true, false, cond, List, [], ◌∷◌, ◌++◌, length, get_or, drop, Option, Some, None, refl, sym, ap, ◌∙◌}
 use Rattle.std.specs.List.{flat_map}
 use Rattle.std.proofs.lemmas.List.{drop_more}
 use Rattle.std.proofs.lemmas.List.Concat.{flat_map-cons}
-use Rattle.ep_units.specs.Text.{Text, is_newline, ends_in_newline}
 use Rattle.ep_csread.specs.declared.written.Number.{Number}
 use Rattle.ep_csread.specs.declared.written.WrittenOp.{WrittenOp}
 use Rattle.ep_csread.specs.Syntax.{Operation}

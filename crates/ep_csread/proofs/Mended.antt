@@ -1,17 +1,15 @@
 -- The units before the place where reading stops begin some changeset text.
-use Rattle.std.proofs.Common.{◌≡◌, ℕ, zero, suc, ◌+◌, ◌-◌, ◌<◌, ◌≤◌, Bool, true, false, true≢false, cond, not, eqb, ◌&&◌, ◌⊎◌, inl, inr, Option, Some, None, List, [], ◌∷◌, ◌++◌, length, take, Result, Ok, Err, refl, sym, ap, ap₂, subst, ◌∙◌, arith, append_assoc, length-append}
+use Rattle.std.proofs.Common.{◌≡◌, ℕ, zero, suc, ◌<◌, Bool, true, false, true≢false, cond, not, ◌&&◌, ◌⊎◌, inl, inr, List, [], ◌∷◌, ◌++◌, length, Result, Ok, Err, refl, sym, ap, ap₂, ◌∙◌, arith, append_assoc, length-append}
 use Rattle.std.specs.List.{list_all}
-use Rattle.std.proofs.lemmas.Bool.{and_from, and_parts, eqb-true}
+use Rattle.std.proofs.lemmas.Bool.{and_from, and_parts}
 use Rattle.ep_units.specs.Text.{Text}
 use Rattle.ep_units.specs.Base36.{is_digit, digits_of, behind}
-use Rattle.ep_csread.specs.Syntax.{◌>>=◌, Operation, Parts, number_in, number_at, begins_with, begins_star, goes_on, star_at, stars_at, lines_at, kind_at, op_at, ops_at, sign_at, unit_at, parts_of, many}
-use Rattle.ep_csread.specs.Grammar.{Writing, IsWritten, BeginsSome}
+use Rattle.ep_csread.specs.Syntax.{◌>>=◌, number_in, number_at}
 use Rattle.ep_csread.proofs.Many.{Shortens}
 use Rattle.ep_csread.proofs.Numbers.{number_shorter}
-use Rattle.ep_csread.proofs.Shorter.{star_shortens, op_shortens}
-use Rattle.ep_csread.proofs.Takes.{only_digits, split_digits, text_takes, writing_of}
+use Rattle.ep_csread.proofs.Takes.{only_digits, split_digits}
 use Rattle.ep_csread.proofs.Follows.{begins_digit, digits_end}
-use Rattle.ep_csread.proofs.Local.{Reader, okay, stop, then, head, got, left_of, rest_of, number, one, all, unfolded, shorter_one, behind_stops, is_kind, kind_is, op_parts, op_is, is_sign, sign_is, unit_is, ops, sign as sign_of, text_parts, text_fault, fault_of, fault_is}
+use Rattle.ep_csread.proofs.Local.{Reader, okay, stop, then, head, got, left_of, rest_of, number, one, all, unfolded, shorter_one, behind_stops}
 
 abbrev pub Test : Type 0
 Test = Text → Bool

@@ -1,5 +1,5 @@
 -- Digits, and the number that they spell.
-use Rattle.std.proofs.Common.{◌≡◌, ℕ, suc, ◌<◌, ◌≤◌, Bool, true, false, cond, [], ◌∷◌, length, Ok, refl, sym, ap, ◌∙◌, arith}
+use Rattle.std.proofs.Common.{◌≡◌, suc, ◌<◌, ◌≤◌, Bool, true, false, cond, [], ◌∷◌, length, Ok, refl, sym, ap, ◌∙◌, arith}
 use Rattle.ep_units.specs.Text.{Text}
 use Rattle.ep_csread.specs.declared.written.Number.{Number}
 use Rattle.ep_units.specs.Base36.{behind, digits_of, is_digit}

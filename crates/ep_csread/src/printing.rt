@@ -5,19 +5,22 @@ ghost use Rattle.std.specs.List.{flat_map, list_all};
 ghost use Rattle.ep_attr.specs.Attrs.{pairs_of};
 ghost use Rattle.ep_pool.specs.Pool.{has, number_of, pair_of};
 ghost use Rattle.ep_units.specs.Base36.{write36};
+ghost use Rattle.ep_units.specs.Text.{Text};
+ghost use Rattle.ep_cs.specs.Change.{bank_of};
 ghost use Rattle.ep_cs.specs.Spelling.{star_text, lines_text, kind_text, op_text, difference_text};
 ghost use Rattle.ep_csread.specs.Spelling.{numbers_in, has_pairs, ops_text, printed};
 
+use crate::output::Spell;
 use ep_attr::{Attr, AttrMap};
 use ep_cs::{Change, Kind, Op};
 use ep_pool::Pool;
-use ep_units::{NoMemory, Units, write36};
+use ep_units::{NoMemory, Units};
 use std::alloc::Global;
 
 /// For how many units there is room beside the bank: the spelling of a letter has fewer.
 const ROOM: usize = 32;
 
-fn kind_unit(kind: Kind) -> u16
+fn kind_unit(kind: Kind) -> u8
     ensures { result ≡ kind_text kind }
 {
     match kind {
@@ -27,46 +30,46 @@ fn kind_unit(kind: Kind) -> u16
     }
 }
 
-fn write_stars(stars: &[u32], out: &mut Units) -> Result<(), NoMemory>
-    ensures { OnOk result (out.new ≡ out.old ++ flat_map star_text stars.now) }
+fn write_stars<S: Spell>(stars: &[u32], out: &mut S) -> Result<(), NoMemory>
+    ensures { OnOk result (S.spelled out.new ≡ S.spelled out.old ++ flat_map star_text stars.now) }
 {
     for star in stars {
-        out.push(42)?;
-        write36(u64::from(*star), out)?;
+        out.put(42)?;
+        out.put36(u64::from(*star))?;
     }
     Ok(())
 }
 
-fn write_lines(lines: u32, out: &mut Units) -> Result<(), NoMemory>
-    ensures { OnOk result (out.new ≡ out.old ++ lines_text lines) }
+fn write_lines<S: Spell>(lines: u32, out: &mut S) -> Result<(), NoMemory>
+    ensures { OnOk result (S.spelled out.new ≡ S.spelled out.old ++ lines_text lines) }
 {
     if lines > 0 {
-        out.push(124)?;
-        write36(u64::from(lines), out)?;
+        out.put(124)?;
+        out.put36(u64::from(lines))?;
     }
     Ok(())
 }
 
 /// Appends an operation, whose attributes have these numbers.
-fn write_op(stars: &[u32], op: &Op, out: &mut Units) -> Result<(), NoMemory>
-    ensures { OnOk result (out.new ≡ out.old ++ op_text stars.now op.now) }
+fn write_op<S: Spell>(stars: &[u32], op: &Op, out: &mut S) -> Result<(), NoMemory>
+    ensures { OnOk result (S.spelled out.new ≡ S.spelled out.old ++ op_text stars.now op.now) }
 {
     write_stars(stars, out)?;
     write_lines(op.lines, out)?;
-    out.push(kind_unit(op.kind))?;
-    write36(u64::from(op.units), out)
+    out.put(kind_unit(op.kind))?;
+    out.put36(u64::from(op.units))
 }
 
 /// Appends how much longer or shorter the new text is.
-fn write_difference(old: u32, new: u32, out: &mut Units) -> Result<(), NoMemory>
-    ensures { OnOk result (out.new ≡ out.old ++ difference_text old new) }
+fn write_difference<S: Spell>(old: u32, new: u32, out: &mut S) -> Result<(), NoMemory>
+    ensures { OnOk result (S.spelled out.new ≡ S.spelled out.old ++ difference_text old new) }
 {
     if old <= new {
-        out.push(62)?;
-        write36(u64::from(new - old), out)
+        out.put(62)?;
+        out.put36(u64::from(new - old))
     } else {
-        out.push(60)?;
-        write36(u64::from(old - new), out)
+        out.put(60)?;
+        out.put36(u64::from(old - new))
     }
 }
 
@@ -102,14 +105,14 @@ fn number_all(attrs: &AttrMap, pool: &Pool, numbers: &mut Vec<u32>) -> Result<()
 }
 
 /// Appends the operations.
-pub(crate) fn write_ops(
+pub(crate) fn write_ops<S: Spell>(
     alloc: Global,
     ops: &[Op],
     pool: &Pool,
-    out: &mut Units,
+    out: &mut S,
 ) -> Result<(), NoMemory>
     requires { has_pairs pool.now.pairs ops.now ≡ true }
-    ensures { OnOk result (out.new ≡ out.old ++ ops_text pool.now.pairs ops.now) }
+    ensures { OnOk result (S.spelled out.new ≡ S.spelled out.old ++ ops_text pool.now.pairs ops.now) }
 {
     let mut numbers = Vec::new(alloc);
     for op in ops {
@@ -120,12 +123,12 @@ pub(crate) fn write_ops(
 }
 
 /// Appends `Z:` and the lengths.
-fn write_lengths(old: u32, new: u32, out: &mut Units) -> Result<(), NoMemory>
-    ensures { OnOk result (out.new ≡ out.old ++ 90 ∷ 58 ∷ (write36 old ++ difference_text old new)) }
+fn write_lengths<S: Spell>(old: u32, new: u32, out: &mut S) -> Result<(), NoMemory>
+    ensures { OnOk result (S.spelled out.new ≡ S.spelled out.old ++ 90 ∷ 58 ∷ (write36 old ++ difference_text old new)) }
 {
-    out.push(90)?;
-    out.push(58)?;
-    write36(u64::from(old), out)?;
+    out.put(90)?;
+    out.put(58)?;
+    out.put36(u64::from(old))?;
     write_difference(old, new, out)
 }
 
@@ -158,15 +161,29 @@ pub fn has_pairs(change: &Change, pool: &Pool) -> bool
         .all(|op| has_all(op.attrs.pairs(), pool))
 }
 
+/// Appends the normal spelling of a change with a pool that has its pairs, up to its bank.
+pub fn print_front<S: Spell>(
+    alloc: Global,
+    change: &Change,
+    pool: &Pool,
+    out: &mut S,
+) -> Result<(), NoMemory>
+    requires { has_pairs pool.now.pairs change.now.runs ≡ true }
+    ensures { OnOk result ((front : Text) × (S.spelled out.new ≡ S.spelled out.old ++ front) × (front ++ bank_of change.now.edit ≡ printed pool.now.pairs change.now)) }
+{
+    write_lengths(change.old_len(), change.new_len(), out)?;
+    write_ops(alloc, change.ops(), pool, out)?;
+    out.put(36)?;
+    Ok(())
+}
+
 /// The normal spelling of a change with a pool that has its pairs.
 pub fn print(alloc: Global, change: &Change, pool: &Pool) -> Result<Units, NoMemory>
     requires { has_pairs pool.now.pairs change.now.runs ≡ true }
     ensures { IfOk result (λ text. text ≡ printed pool.now.pairs change.now) }
 {
     let mut out = Units::with_capacity(alloc, change.bank().len().saturating_add(ROOM))?;
-    write_lengths(change.old_len(), change.new_len(), &mut out)?;
-    write_ops(alloc, change.ops(), pool, &mut out)?;
-    out.push(36)?;
+    print_front(alloc, change, pool, &mut out)?;
     out.push_all(change.bank().as_slice())?;
     Ok(out)
 }

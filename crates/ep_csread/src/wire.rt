@@ -1,11 +1,11 @@
 //! Changes in wire form: each with a pool of its own, of just the pairs that it names.
 
-ghost use Rattle.std.specs.Prelude.{◌≡◌, fold, IfOk, OnOk};
+ghost use Rattle.std.specs.Prelude.{◌≡◌, true, fold, IfOk, OnOk};
 ghost use Rattle.std.specs.List.{flat_map};
 ghost use Rattle.ep_attr.specs.Attrs.{pairs_of};
 ghost use Rattle.ep_pool.specs.Pool.{pair_of, put};
 ghost use Rattle.ep_cs.specs.Spelling.{old_len};
-ghost use Rattle.ep_csread.specs.Spelling.{ops_text, pairs_named, printed};
+ghost use Rattle.ep_csread.specs.Spelling.{has_pairs, ops_text, pairs_named, printed};
 
 use crate::printing::{print, write_ops};
 use ep_attr::Attr;
@@ -66,13 +66,22 @@ fn pool_of(alloc: Global, ops: &[Op]) -> Result<Pool, NoMemory>
     Ok(pool)
 }
 
+/// The pool of just the pairs that a change names.
+#[tactic(auto, using(crate::proofs::WirePool::named_there))]
+pub fn own_pool(alloc: Global, change: &Change) -> Result<Pool, NoMemory>
+    ensures pairs { IfOk result (λ pool. pool.pairs ≡ pairs_named change.now.runs) }
+    ensures has { IfOk result (λ pool. has_pairs pool.pairs change.now.runs ≡ true) }
+{
+    pool_of(alloc, change.ops())
+}
+
 /// The normal spelling of a change with the pool of its own pairs.
 #[tactic(auto, using(crate::proofs::WirePool::named_there, crate::proofs::WirePool::printed_named))]
 pub fn for_wire(alloc: Global, change: &Change) -> Result<Wire, NoMemory>
     ensures text { IfOk result (λ wire. wire.text ≡ printed (pairs_named change.now.runs) change.now) }
     ensures pool { IfOk result (λ wire. wire.pool.pairs ≡ pairs_named change.now.runs) }
 {
-    let pool = pool_of(alloc, change.ops())?;
+    let pool = own_pool(alloc, change)?;
     let text = print(alloc, change, &pool)?;
     Ok(Wire { text, pool })
 }

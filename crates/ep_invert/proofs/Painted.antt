@@ -8,7 +8,7 @@ use Rattle.ep_cs.specs.Steps.{run}
 use Rattle.ep_cs.specs.Splice.{kept}
 use Rattle.ep_cs.proofs.Canonical.{times}
 use Rattle.ep_cs.proofs.Composed.{over-settle}
-use Rattle.ep_apply.proofs.Pieces.{painted_bare}
+use Rattle.ep_apply.proofs.Painted.{painted_bare}
 use Rattle.ep_cursor.proofs.Made.{run-append, passed_times}
 use Rattle.ep_invert.specs.Paint.{paint_steps, paint}
 

@@ -17,7 +17,7 @@ use Rattle.ep_cs.specs.Draft.{Draft, inserted_by, keeping, dropping}
 use Rattle.ep_cs.proofs.Plain.{length-text_of}
 use Rattle.ep_cs.proofs.Drafts.{inserted-append}
 use Rattle.ep_apply.specs.Documents.{HasNoEmpty}
-use Rattle.ep_apply.proofs.Pieces.{next_rest, next_taken, taken_front, dropped_front, length_cells}
+use Rattle.ep_blocks.proofs.Pieces.{next_rest, next_taken, taken_front, dropped_front, length_cells}
 use Rattle.ep_cursor.proofs.Lined.{lined_within}
 use Rattle.ep_cursor.proofs.Made.{passed-append, passed_new}
 use Rattle.ep_invert.specs.Inverse.{restoring}

@@ -24,7 +24,7 @@ use Rattle.ep_cs.proofs.Composed.{over-settle}
 use Rattle.ep_cs.proofs.Drafts.{passed_are}
 use Rattle.ep_cs.proofs.Plain.{length-text_of}
 use Rattle.ep_apply.specs.Documents.{HasNoEmpty, IsDocument}
-use Rattle.ep_apply.proofs.Pieces.{length_cells}
+use Rattle.ep_blocks.proofs.Pieces.{length_cells}
 use Rattle.ep_cursor.specs.declared.cursor.Head.{Head}
 use Rattle.ep_cursor.specs.Heads.{op_of, IsHead}
 use Rattle.ep_cursor.specs.Left.{Left, left_of, steps_left, advanced, first_units, first_lines, cut, without}

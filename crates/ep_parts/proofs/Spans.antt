@@ -1,6 +1,6 @@
 -- Stretches of a text, taken and added.
 use Rattle.std.proofs.Common.{◌≡◌, inl, inr, ℕ, suc, ◌+◌, ◌-◌, ◌<◌, ◌≤◌, Bool, true, false, List, [], ◌∷◌, ◌++◌, length, take, drop, get_or, slice_index_or, slice_set, if◌then◌else◌, refl, sym, ap, ap₂, ◌∙◌, subst, arith, append_assoc, append-nil, length-append, length-drop, take-append-drop, drop-drop}
-use Rattle.std.proofs.lemmas.List.{take-append-le, drop-append-le, length-map, map-append}
+use Rattle.std.proofs.lemmas.List.{take-append-le, drop-append-le, length-map, map-append, take-map, drop-map}
 use Rattle.std.proofs.Math.Seq.{take-length, take-add, take-append-add, drop-append-add}
 use Rattle.ep_units.specs.Text.{Text}
 use Rattle.ep_attr.specs.AttrMap.{AttrMap, same_map}
@@ -8,6 +8,7 @@ use Rattle.ep_attr.proofs.SameMap.{exact_map}
 use Rattle.ep_cs.specs.Doc.{Cell, text_of}
 use Rattle.ep_cs.specs.Runs.{cells}
 use Rattle.ep_parts.specs.declared.span.Span.{Span}
+use Rattle.ep_parts.specs.Splices.{spliced}
 use Rattle.ep_parts.specs.Spans.{Adds, AddsCells, cells_of, all_units, AreSpans, joined_on, first_units, left_of, left_units, AreLeft}
 
 text_cells : (m : AttrMap) (us : Text) → text_of (cells m us) ≡ us
@@ -270,3 +271,25 @@ pub dropped_on : (m : AttrMap) (us : Text) (n : ℕ) (all rest : List Cell) → 
 dropped_on m us n all rest e h =
     let k : n ≡ length (cells m us) + (n - length us) = omega (arith, h, length_cells m us) in
     sym (ap₂ (λ (k : ℕ) (cs : List Cell). drop k cs) k e ∙ drop-append-add (cells m us) rest (n - length us))
+
+-- ---- one stretch
+
+pub one_span : (m : AttrMap) (n : ℕ) (us : Text) → n ≡ length us → cells_of (record { units = n; attrs = m } ∷ []) us ≡ cells m us
+one_span m n us h = append-nil _ ∙ ap (λ (k : ℕ). cells m (take k us)) h ∙ ap (cells m) (take-length us)
+
+pub only_span : (ss : List Span) (s : Span) (us : Text) → length ss ≡ 1 → s ≡ get_or ss 0 s → all_units ss ≡ length us → cells_of ss us ≡ cells s.attrs us
+only_span [] s us one e h = absurd (omega (arith, one))
+only_span (t ∷ []) s us one e h =
+    ap (λ (t : Span). cells_of (t ∷ []) us) (sym e)
+    ∙ one_span s.attrs s.units us (omega (arith, h, ap (λ (t : Span). t.units) e))
+only_span (t ∷ (u ∷ ss)) s us one e h = absurd (omega (arith, one))
+
+-- a splice where all has one map
+pub spliced_alike : (m : AttrMap) (us new : Text) (at dropped : ℕ)
+    → cells m ((take at us ++ new) ++ drop dropped (drop at us)) ≡ spliced at dropped (cells m new) (cells m us)
+spliced_alike m us new at dropped =
+    let cell : ℕ → Cell = λ u. record { unit = u; attrs = m } in
+    cells-cut m (take at us ++ new) (drop dropped (drop at us))
+    ∙ ap₂ (λ (a b : List Cell). a ++ b) (cells-cut m (take at us) new) (ap (cells m) (drop-drop dropped at us))
+    ∙ append_assoc (cells m (take at us)) (cells m new) (cells m (drop (at + dropped) us))
+    ∙ ap₂ (λ (a b : List Cell). a ++ (cells m new ++ b)) (sym (take-map cell at us)) (sym (drop-map cell (at + dropped) us))

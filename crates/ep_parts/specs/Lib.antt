@@ -1,2 +1,3 @@
 pub mod Spans
 pub mod Inside
+pub mod Splices

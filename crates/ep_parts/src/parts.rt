@@ -1,11 +1,12 @@
 //! A text in stretches of one map each.
 
-ghost use Rattle.std.specs.Prelude.{◌≡◌, ◌≤◌, ◌<◌, ◌^◌, ◌+◌, ◌++◌, [], length, take, drop, IfOk, OnOk};
+ghost use Rattle.std.specs.Prelude.{◌≡◌, ◌≤◌, ◌<◌, ◌^◌, ◌+◌, ◌++◌, [], true, length, take, drop, IfOk, OnOk};
 ghost use Rattle.ep_cs.specs.Doc.{text_of};
 ghost use Rattle.ep_cs.specs.Runs.{cells};
+ghost use Rattle.ep_parts.specs.Splices.{spliced};
 
-use crate::span::{Span, first_units, join_span};
-use crate::within::{Within, take_spans};
+use crate::span::{Span, add_span, first_units, join_span};
+use crate::within::{Stretch, Within, take_spans};
 use ep_attr::AttrMap;
 use ep_units::{NoMemory, Units};
 use std::alloc::Global;
@@ -106,12 +107,14 @@ impl Parts {
         rest: &mut Within<'_>,
         units: u32,
     ) -> Result<(), NoMemory>
-        requires some { 1 ≤ units }
         requires inside { units ≤ length rest.old }
         requires short { length self.old + units < 2 ^ 32 }
         ensures done { OnOk result (self.new ≡ self.old ++ take units rest.old) }
         ensures rest { OnOk result (rest.new ≡ drop units rest.old) }
     {
+        if units == 0 {
+            return Ok(());
+        }
         match rest.take(units) {
             None => Ok(()),
             Some(first) => {
@@ -144,5 +147,83 @@ impl Parts {
                 Err(no_memory)
             }
         }
+    }
+
+    /// Whether all of it is one stretch with this map.
+    fn is_all_of(&self, attrs: &AttrMap) -> bool
+        ensures { result ≡ true → self.now ≡ cells attrs.now (text_of self.now) }
+    {
+        match self.spans.as_slice() {
+            [span] => span.attrs == *attrs,
+            _ => false,
+        }
+    }
+
+    /// Text in three pieces, with one map.
+    fn of_one_map(
+        alloc: Global,
+        front: &[u16],
+        new: &[u16],
+        rear: &[u16],
+        attrs: &AttrMap,
+    ) -> Result<Parts, NoMemory>
+        requires short { length front.now + length new.now + length rear.now < 2 ^ 32 }
+        ensures { IfOk result (λ p. p ≡ cells attrs.now ((front.now ++ new.now) ++ rear.now)) }
+    {
+        let units = front.len() + new.len() + rear.len();
+        if units == 0 {
+            return Ok(Parts::empty(alloc));
+        }
+        let mut text = Units::with_capacity(alloc, units)?;
+        text.push_all(front)?;
+        text.push_all(new)?;
+        text.push_all(rear)?;
+        let mut spans = Vec::with_capacity(alloc, 1)?;
+        add_span(alloc, &mut spans, units as u32, attrs)?;
+        Ok(Parts { text, spans })
+    }
+
+    /// All of it after a splice, stretch by stretch.
+    fn spliced_apart(
+        &self,
+        alloc: Global,
+        at: u32,
+        dropped: u32,
+        new: Stretch<'_>,
+    ) -> Result<Parts, NoMemory>
+        requires inside { at + dropped ≤ length self.now }
+        requires short { length self.now + length new.text.now < 2 ^ 32 }
+        ensures { IfOk result (λ p. p ≡ spliced at dropped (cells new.entry.attrs.now new.entry.text.now) self.now) }
+    {
+        let left = self.len() - dropped;
+        let mut parts = Parts::with_room(alloc, left as usize + new.text.len())?;
+        let mut rest = self.within();
+        parts.take_from(alloc, &mut rest, at)?;
+        rest.skip(dropped);
+        if !new.text.is_empty() {
+            parts.push(alloc, new.text, new.attrs)?;
+        }
+        parts.take_from(alloc, &mut rest, left - at)?;
+        Ok(parts)
+    }
+
+    /// All of it after a splice: other text in the place of so many units.
+    pub fn spliced(
+        &self,
+        alloc: Global,
+        at: u32,
+        dropped: u32,
+        new: Stretch<'_>,
+    ) -> Result<Parts, NoMemory>
+        requires inside { at + dropped ≤ length self.now }
+        requires short { length self.now + length new.text.now < 2 ^ 32 }
+        ensures { IfOk result (λ p. p ≡ spliced at dropped (cells new.entry.attrs.now new.entry.text.now) self.now) }
+    {
+        if !self.is_all_of(new.attrs) {
+            return self.spliced_apart(alloc, at, dropped, new);
+        }
+        let (front, rest) = self.text().split_at(at as usize);
+        let (_, rear) = rest.split_at(dropped as usize);
+        Parts::of_one_map(alloc, front, new.text, rear, new.attrs)
     }
 }

@@ -99,6 +99,30 @@ impl<'a> Within<'a> {
             }
         }
     }
+
+    /// Leaves out the next stretch, of at most so many units, and answers how many it has.
+    fn skip_stretch(&mut self, most: u32) -> u32
+        requires some { 1 ≤ most }
+        requires inside { most ≤ length self.old }
+        ensures units { (1 ≤ result) × (result ≤ most) }
+        ensures rest { self.new ≡ drop result self.old }
+    {
+        match self.take(most) {
+            None => most,
+            Some(stretch) => stretch.text.len() as u32,
+        }
+    }
+
+    /// Leaves out the next units, so many.
+    pub(crate) fn skip(&mut self, units: u32)
+        requires { units ≤ length self.old }
+        ensures { self.new ≡ drop units self.old }
+    {
+        let mut left = units;
+        'stretches: while left > 0 {
+            left -= self.skip_stretch(left);
+        }
+    }
 }
 
 /// Moves the next stretch, of at most so many units, behind others, and answers how many it has.

@@ -1,6 +1,6 @@
 //! Records written as bytes.
 
-ghost use Rattle.std.specs.Prelude.{◌≡◌, ◌<◌, ◌+◌, ◌^◌, ℕ, slice_index, ◌++◌, ◌∷◌, [], true, false, take, length, IfOk, OnOk, IsErrOf};
+ghost use Rattle.std.specs.Prelude.{◌≡◌, ◌≤◌, ◌<◌, ◌+◌, ◌^◌, ℕ, slice_index, ◌++◌, ◌∷◌, [], true, false, take, drop, length, IfOk, OnOk, IsErrOf};
 ghost use Rattle.std.specs.List.{flat_map, AllByRecursion};
 ghost use Rattle.std.specs.String.{string_bytes};
 ghost use Rattle.ep_units.specs.Text.{is_well_formed};
@@ -8,12 +8,13 @@ ghost use Rattle.ep_units.specs.Clean.{clean};
 ghost use Rattle.ep_units.specs.Utf8.{utf8_of};
 ghost use Rattle.ep_pool.specs.Pool.{pair_of};
 ghost use Rattle.ep_record.specs.Bytes.{bytes_of, change, count, counted, flag, number, pair, pool, session, text, IsChange, IsEncoding, IsNumber, IsPair, IsPool, IsRecord, IsSession, IsText};
-ghost use Rattle.ep_record.specs.Writing.{Adds, is_ascii};
+ghost use Rattle.ep_csread.specs.Spelling.{has_pairs, printed};
+ghost use Rattle.ep_record.specs.Writing.{Adds, begun, is_ascii};
 
 use crate::fault::Fault;
 use ep_attr::Attr;
 use ep_cs::Change;
-use ep_csread::for_wire;
+use ep_csread::{own_pool, print, print_front};
 use ep_history::Record;
 use ep_pool::Pool;
 use ep_units::{NoMemory, Session, TextBad, Units, well_formed_has_no_lone_half};
@@ -98,34 +99,77 @@ fn narrow(units: &[u16], bytes: &mut [u8]) -> bool
     ascii
 }
 
-/// Sets the bytes to how many units there are, and to the units. Says whether these are ASCII.
-#[tactic(auto, unfolding(crate::specs::Bytes::count))]
-fn set_ascii(units: &[u16], bytes: &mut [u8]) -> bool
-    requires few { length units.now < 2 ^ 32 }
-    requires room { length bytes.old ≡ COUNT + length units.now }
-    ensures ascii { result ≡ is_ascii units.now }
-    ensures bytes { result ≡ true → bytes.new ≡ count (length units.now) ++ units.now }
+/// Whether each is a character of one byte.
+fn are_ascii(bytes: &[u8]) -> bool
+    ensures { result ≡ is_ascii bytes.now }
 {
-    let (count, rest) = bytes.split_at_mut(COUNT);
-    count.copy_from_slice(&(units.len() as u32).to_be_bytes());
-    narrow(units, rest)
+    bytes.iter().all(|byte| *byte < 128)
+}
+
+/// Makes of four bytes, the front of a text and room for its rest how many bytes the text has, and the text. Says whether
+/// that is ASCII; else they are of no use.
+#[tactic(auto, unfolding(crate::specs::Bytes::count))]
+fn set_text(rest: &[u16], bytes: &mut [u8]) -> bool
+    requires room { COUNT + length rest.now ≤ length bytes.old }
+    requires few { length bytes.old < COUNT + 2 ^ 32 }
+    ensures ascii { result ≡ true → is_ascii (begun bytes.old (length rest.now) ++ rest.now) ≡ true }
+    ensures bytes { result ≡ true → bytes.new ≡ count (length (begun bytes.old (length rest.now) ++ rest.now)) ++ (begun bytes.old (length rest.now) ++ rest.now) }
+{
+    let (count, text) = bytes.split_at_mut(COUNT);
+    count.copy_from_slice(&(text.len() as u32).to_be_bytes());
+    let (front, back) = text.split_at_mut(text.len() - rest.len());
+    narrow(rest, back) && are_ascii(front)
+}
+
+/// Ends a text that was begun at a place, by four bytes and its front. Where it is ASCII, it is counted; otherwise all of it
+/// goes, and this says so.
+fn end_text(at: usize, rest: &[u16], out: &mut Vec<u8>) -> Result<bool, Fault>
+    requires { at + COUNT ≤ length out.old.items }
+    ensures put { IfOk result (λ ascii. ascii ≡ true → (out.new.items ≡ take at out.old.items ++ text (drop (at + COUNT) out.old.items ++ rest.now)) × IsText (drop (at + COUNT) out.old.items ++ rest.now)) }
+    ensures not { IfOk result (λ ascii. ascii ≡ false → out.new.items ≡ take at out.old.items) }
+    ensures memory { IsErrOf result (Fault.NoRecord) → ⊥ }
+{
+    let units = out.len() - at - COUNT + rest.len();
+    if units > MOST_BYTES {
+        out.truncate(at);
+        return Ok(false);
+    }
+    out.resize(at + COUNT + units, 0)?;
+    let (_, added) = out.split_at_mut(at);
+    let ascii = set_text(rest, added);
+    if !ascii {
+        out.truncate(at);
+    }
+    Ok(ascii)
 }
 
 /// Appends a text that is ASCII, whose bytes are its units. Otherwise it appends nothing, and says so.
 fn put_ascii(units: &[u16], out: &mut Vec<u8>) -> Result<bool, Fault>
-    requires { length units.now < 2 ^ 32 }
     ensures put { IfOk result (λ ascii. ascii ≡ true → (out.new.items ≡ out.old.items ++ text units.now) × IsText units.now) }
     ensures not { IfOk result (λ ascii. ascii ≡ false → out.new.items ≡ out.old.items) }
     ensures memory { IsErrOf result (Fault.NoRecord) → ⊥ }
 {
     let at = out.len();
-    out.resize(at + COUNT + units.len(), 0)?;
-    let (_, added) = out.split_at_mut(at);
-    let ascii = set_ascii(units, added);
-    if !ascii {
-        out.truncate(at);
-    }
-    Ok(ascii)
+    out.extend_from_slice(&[0; COUNT])?;
+    end_text(at, units, out)
+}
+
+/// Appends the spelling of a change that is ASCII. Otherwise it appends nothing, and says so.
+fn put_spelling(
+    alloc: Global,
+    done: &Change,
+    pairs: &Pool,
+    out: &mut Vec<u8>,
+) -> Result<bool, Fault>
+    requires { has_pairs pairs.now.pairs done.now.runs ≡ true }
+    ensures put { IfOk result (λ ascii. ascii ≡ true → (out.new.items ≡ out.old.items ++ text (printed pairs.now.pairs done.now)) × IsText (printed pairs.now.pairs done.now)) }
+    ensures not { IfOk result (λ ascii. ascii ≡ false → out.new.items ≡ out.old.items) }
+    ensures memory { IsErrOf result (Fault.NoRecord) → ⊥ }
+{
+    let at = out.len();
+    out.extend_from_slice(&[0; COUNT])?;
+    print_front(alloc, done, pairs, out)?;
+    end_text(at, done.bank().as_slice(), out)
 }
 
 #[tactic(auto, unfolding(crate::specs::Bytes::text))]
@@ -142,11 +186,21 @@ fn put_utf8(alloc: Global, us: &Units, out: &mut Vec<u8>) -> Result<(), Fault>
 fn put_text(alloc: Global, us: &Units, out: &mut Vec<u8>) -> Result<(), Fault>
     ensures { Adds result out.old.items out.new.items (text us.now) (IsText us.now) }
 {
-    let units = us.as_slice();
-    if units.len() <= MOST_BYTES && put_ascii(units, out)? {
+    if put_ascii(us.as_slice(), out)? {
         return Ok(());
     }
     put_utf8(alloc, us, out)
+}
+
+/// Appends the spelling of a change. Most are ASCII, and need no text.
+fn put_spelled(alloc: Global, done: &Change, pairs: &Pool, out: &mut Vec<u8>) -> Result<(), Fault>
+    requires { has_pairs pairs.now.pairs done.now.runs ≡ true }
+    ensures { Adds result out.old.items out.new.items (text (printed pairs.now.pairs done.now)) (IsText (printed pairs.now.pairs done.now)) }
+{
+    if put_spelling(alloc, done, pairs, out)? {
+        return Ok(());
+    }
+    put_utf8(alloc, &print(alloc, done, pairs)?, out)
 }
 
 #[tactic(auto, unfolding(crate::specs::Bytes::pair))]
@@ -181,9 +235,9 @@ fn put_change(alloc: Global, done: &Change, out: &mut Vec<u8>) -> Result<(), Fau
     ensures { Adds result out.old.items out.new.items (change done.now) (IsChange done.now) }
 {
     let _runs = done.ops();
-    let wire = for_wire(alloc, done)?;
-    put_text(alloc, &wire.text, out)?;
-    put_pool(alloc, &wire.pool, out)
+    let pairs = own_pool(alloc, done)?;
+    put_spelled(alloc, done, &pairs, out)?;
+    put_pool(alloc, &pairs, out)
 }
 
 /// Whether cleaning leaves the text as it is.

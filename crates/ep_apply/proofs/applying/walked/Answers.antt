@@ -4,7 +4,6 @@ use Rattle.ep_attr.specs.AttrMap.{none}
 use Rattle.ep_cs.specs.Doc.{painted}
 use Rattle.ep_cs.specs.Edit.{apply}
 use Rattle.ep_cs.specs.Runs.{passed, inserted}
-use Rattle.ep_apply.specs.Bodies.{body_cells}
 use Rattle.ep_apply.specs.Makes.{run_makes}
 use Rattle.ep_apply.proofs.Documents.{document_is, document_made}
 use Rattle.ep_apply.proofs.Walk.{walk_of, begin, go_on, run_short, over_all, end_short, length_after}
@@ -60,7 +59,7 @@ invariant_of-result c =
     let at = c.loop-op.at in
     let out = c.loop-op.out in
     let n : c.len.result - at ≡ length c.args.doc.now - at = ap (λ (k : ℕ). k - at) c.len.ensures in
-    let is : body_cells c.in_ok-body.body ≡ apply c.args.change.now.edit c.args.doc.now =
+    let is : c.in_ok-body.body ≡ apply c.args.change.now.edit c.args.doc.now =
     c.in_ok-body.ensures ∙ over_all c.args.change.now c.args.doc.now c.ops-op-items.result.now c.as_slice-bank.result.now out c.loop-op.rest c.keep.new.out c.loop-op.op-index at c.loop-op.used w c.loop-op.invariant (omega arith)
     (c.in_ok-keep.ensures.done ∙ (λ i. out ++ map (λ d. painted d (c.none-as_it_is.ensures i)) (take (n i) (c.loop-op.invariant.rest_is i))) ∙ ap (λ cs. out ++ map (λ d. painted d none) cs) (take_rest c.args.doc.now at)) in
     record {

@@ -1,4 +1,4 @@
-use Rattle.ep_apply.proofs.Pieces.{more_painted}
+use Rattle.ep_apply.proofs.Painted.{more_painted}
 use Rattle.ep_apply.proofs.moving.keep_painted.Goals as goal
 
 pub pieces-preserved : goal.pieces-preserved

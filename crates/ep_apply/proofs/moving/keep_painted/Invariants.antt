@@ -1,4 +1,4 @@
-use Rattle.ep_apply.proofs.Pieces.{ArePainted}
+use Rattle.ep_apply.proofs.Painted.{ArePainted}
 use Rattle.ep_apply.proofs.moving.keep_painted.Given as goal
 
 abbrev pub invariant-pieces : goal.invariant-pieces

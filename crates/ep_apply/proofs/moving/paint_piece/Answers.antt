@@ -1,7 +1,7 @@
 use Rattle.std.proofs.Common.{◌∙◌, ◌++◌, sym, ap}
 use Rattle.ep_attr.specs.AttrMap.{AttrMap}
 use Rattle.ep_cs.specs.Runs.{cells}
-use Rattle.ep_apply.proofs.Pieces.{piece_painted}
+use Rattle.ep_apply.proofs.Painted.{piece_painted}
 use Rattle.ep_apply.proofs.moving.paint_piece.Goals as goal
 
 pub returns-in_ok-push-in-Some-clause-done : goal.returns-in_ok-push-in-Some-clause-done

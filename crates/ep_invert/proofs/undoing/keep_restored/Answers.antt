@@ -1,4 +1,4 @@
-use Rattle.ep_apply.proofs.Pieces.{not_over}
+use Rattle.ep_blocks.proofs.Pieces.{not_over}
 use Rattle.ep_invert.proofs.Pieces.{IsPiece, more_restored, restored_room}
 use Rattle.ep_invert.proofs.undoing.keep_restored.Goals as goal
 

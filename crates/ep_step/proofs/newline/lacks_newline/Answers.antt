@@ -2,7 +2,7 @@ use Rattle.std.proofs.Common.{◌≡◌, ◌≤◌, length, take, take_all, arit
 use Rattle.ep_units.specs.Text.{Text}
 use Rattle.ep_cs.specs.Doc.{text_of}
 use Rattle.ep_cs.proofs.Plain.{length-text_of}
-use Rattle.ep_apply.specs.Blocks.{Sees}
+use Rattle.ep_seen.specs.Seen.{Sees}
 use Rattle.ep_step.proofs.Ending.{seen-tail}
 use Rattle.ep_step.proofs.newline.lacks_newline.Goals as goal
 

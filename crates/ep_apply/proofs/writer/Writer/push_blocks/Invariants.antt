@@ -1,9 +1,0 @@
-use Rattle.std.proofs.Common.{◌≡◌, ◌++◌, length}
-use Rattle.ep_apply.specs.Blocks.{all_cells}
-use Rattle.ep_apply.proofs.writer.Writer.push_blocks.Given as goal
-
-abbrev pub invariant-pieces : goal.invariant-pieces
-invariant-pieces l = l.self ++ all_cells l.rest ≡ l.initial.self ++ all_cells l.blocks
-
-abbrev pub decreases-pieces : goal.decreases-pieces
-decreases-pieces l = length l.rest
