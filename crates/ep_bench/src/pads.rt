@@ -100,7 +100,11 @@ impl Typist {
         if !text.well_formed() {
             return Err(anyhow!("the text is none"));
         }
-        let disk = MemDisk::new(alloc, Vec::new(alloc), Vec::new(alloc))?;
+        let disk = MemDisk::new(
+            alloc,
+            Vec::with_capacity(alloc, 4_000_000)?,
+            Vec::new(alloc),
+        )?;
         let mut pad = opened(alloc, disk)?;
         create(&mut pad, &text)?;
         let session = login(&mut pad, &grant(alloc)?)?;
