@@ -2,6 +2,7 @@
 
 ghost use Rattle.std.specs.Prelude.{◌≡◌, ◌<◌, ◌^◌, ◌∷◌, [], length, IfOk};
 ghost use Rattle.ep_cs.specs.Doc.{text_of};
+ghost use Rattle.ep_cs.specs.Lines.{is_whole_lines};
 ghost use Rattle.ep_cs.specs.Plain.{plain};
 ghost use Rattle.ep_apply.specs.Documents.{IsDocument, insertion};
 
@@ -67,6 +68,13 @@ impl Doc {
         ensures { result ≡ length self.now }
     {
         self.units
+    }
+
+    /// Whether its text is whole lines: it has no units, or ends in a newline.
+    pub fn is_whole_lines(&self) -> bool
+        ensures { result ≡ is_whole_lines (text_of self.now) }
+    {
+        self.body.is_whole_lines()
     }
 
     /// Its units in one list, which is made.

@@ -1,5 +1,5 @@
 -- Blocks one after another, and what is seen of their text.
-use Rattle.std.proofs.Common.{◌≡◌, ℕ, suc, ◌+◌, ◌-◌, ◌≤◌, ◌<◌, ◌^◌, ◌==◌, true, false, List, [], ◌∷◌, ◌++◌, length, take, drop, get_or, refl, sym, ap, ap₂, ◌∙◌, subst, arith, append_assoc, append-nil, length-append, take-append-drop}
+use Rattle.std.proofs.Common.{◌≡◌, ℕ, suc, ◌+◌, ◌-◌, ◌≤◌, ◌<◌, ◌^◌, ◌==◌, true, false, List, [], ◌∷◌, ◌++◌, length, take, drop, get_or, refl, sym, ap, ap₂, ◌∙◌, subst, arith, append_assoc, append-nil, length-append, take-append-drop, take_all}
 use Rattle.std.proofs.lemmas.List.{map-append, take_more, length-map, take-append-le, take-map, drop-map}
 use Rattle.std.proofs.lemmas.Bool.Decides.{nat_tests}
 use Rattle.std.proofs.Math.Seq.{drop-append-add, take-length}
@@ -9,9 +9,10 @@ use Rattle.std.specs.declared.sync.Arc.{Arc}
 use Rattle.std.specs.declared.alloc.Global.{Global}
 use Rattle.ep_units.specs.Text.{Text}
 use Rattle.ep_cs.specs.Doc.{Cell, text_of}
+use Rattle.ep_cs.specs.Lines.{is_whole_lines}
 use Rattle.ep_seen.specs.Seen.{Sees, ends_high}
 use Rattle.ep_seen.specs.declared.seen.Seen.{Seen}
-use Rattle.ep_seen.proofs.Texts.{high-append, not_zero, HasRoom, seen_room}
+use Rattle.ep_seen.proofs.Texts.{high-append, whole-append, not_zero, HasRoom, seen_room}
 use Rattle.ep_blocks.specs.Blocks.{all_cells, node_cells}
 
 pub length_text : (cs : List Cell) → length (text_of cs) ≡ length cs
@@ -104,6 +105,16 @@ pub blocks_high : (us : Text) (bs gs : List (Arc (List Cell) Global)) (b : Arc (
     → ends_high (us ++ text_of (all_cells bs ++ all_cells gs)) ≡ ends_high (text_of (arc_value b))
 blocks_high us bs [] b none some e h = ap (λ cs. ends_high (us ++ text_of cs)) (append-nil (all_cells bs)) ∙ last_high us bs b some e h
 blocks_high us bs (g ∷ gs) b none some e h = absurd (omega (arith, none))
+
+-- the last node tells whether the text is whole lines
+pub last_whole : {A : Type 0} (f : A → List Cell) (ns : List (Arc A Global)) (n : Arc A Global) → 1 ≤ length ns → n ≡ get_or ns (length ns - 1) n → 1 ≤ length (f (arc_value n))
+    → is_whole_lines (text_of (node_cells f ns)) ≡ is_whole_lines (text_of (f (arc_value n)))
+last_whole f ns n some e h =
+    let i = length ns - 1 in
+    let first = node_cells f (take i ns) in
+    let last = f (arc_value n) in
+    let whole : node_cells f ns ≡ first ++ last = ap (node_cells f) (sym (take_all (i + 1) ns (omega (arith, some)))) ∙ next_node f ns i n (omega (arith, some)) e in
+    ap (λ (cs : List Cell). is_whole_lines (text_of cs)) whole ∙ ap is_whole_lines (text-append first last) ∙ whole-append (text_of first) (text_of last) (omega (arith, h, length_text last))
 
 pub no_units : (us : Text) → (length us == 0) ≡ true → us ≡ []
 no_units [] h = refl

@@ -2,6 +2,7 @@
 
 ghost use Rattle.std.specs.Prelude.{◌≡◌, ◌≤◌, ◌<◌, ◌^◌, ◌+◌, [], length, IfOk, IfSome};
 ghost use Rattle.ep_cs.specs.Doc.{text_of};
+ghost use Rattle.ep_cs.specs.Lines.{is_whole_lines};
 ghost use Rattle.ep_cs.specs.Runs.{cells};
 ghost use Rattle.ep_blocks.specs.Blocks.{node_cells};
 ghost use Rattle.ep_blocks.specs.Bodies.{form_cells};
@@ -70,6 +71,16 @@ fn share<T: Node>(alloc: Global, nodes: &[Arc<T>]) -> Result<Vec<Arc<T>>, NoMemo
     Ok(all)
 }
 
+/// Whether the text of nodes is whole lines, which the last of them tells.
+fn are_whole_lines<T: Node>(nodes: &[Arc<T>]) -> bool
+    ensures { result ≡ is_whole_lines (text_of (node_cells T.cells nodes.now)) }
+{
+    match nodes {
+        [] => true,
+        [.., node] => node.seen().tail == 0,
+    }
+}
+
 impl Body {
     /// What stands in this form.
     pub(crate) fn of(form: Form) -> Body
@@ -113,6 +124,17 @@ impl Body {
         Passing {
             here: &[],
             ahead: self.ahead(),
+        }
+    }
+
+    /// Whether its text is whole lines: it has no units, or ends in a newline.
+    pub fn is_whole_lines(&self) -> bool
+        ensures { result ≡ is_whole_lines (text_of self.now) }
+    {
+        match &self.form {
+            Form::Blocks(blocks) => are_whole_lines(blocks),
+            Form::Groups(groups) => are_whole_lines(groups),
+            Form::Pages(pages) => are_whole_lines(pages),
         }
     }
 

@@ -1,63 +1,22 @@
--- Whether a document ends in a newline, told by what is seen of its text; and the newline as a splice.
-use Rattle.std.proofs.Common.{◌≡◌, ℕ, zero, suc, ◌+◌, ◌-◌, ◌<◌, ◌≤◌, Bool, true, false, cond, not, ◌||◌, ◌==◌, nat_lt, List, [], ◌∷◌, ◌++◌, length, take, drop, take_all, refl, sym, ap, ◌∙◌, subst, T, arith, append-nil}
-use Rattle.std.proofs.lemmas.Bool.Decides.{nat_tests}
-use Rattle.ep_units.specs.Text.{Text, is_high, is_low, is_newline, is_paired}
+-- Whether a document ends in a newline, and the newline as a splice.
+use Rattle.std.proofs.Common.{◌≡◌, ℕ, zero, suc, ◌+◌, ◌-◌, Bool, true, false, cond, not, List, [], ◌∷◌, ◌++◌, length, refl, sym, ap, ◌∙◌, arith, append-nil}
+use Rattle.ep_units.specs.Text.{is_high, is_low, is_paired}
 use Rattle.ep_attr.proofs.SameMap.{first_true, second_true}
 use Rattle.ep_cs.proofs.EditFits.{ends_well}
 use Rattle.ep_apply.specs.Documents.{IsDocument}
 use Rattle.ep_attr.specs.AttrMap.{none}
 use Rattle.ep_cs.specs.Doc.{Cell, Doc, text_of}
-use Rattle.ep_cs.specs.Edit.{Step, Edit, inserts, settle, with_place, identity}
+use Rattle.ep_cs.specs.Edit.{inserts, settle, with_place, identity}
 use Rattle.ep_cs.specs.Edit.Fate.{Keep}
-use Rattle.ep_cs.specs.Lines.{count_lines, is_whole_lines}
+use Rattle.ep_cs.specs.Lines.{is_whole_lines}
 use Rattle.ep_cs.specs.Plain.{plain}
-use Rattle.ep_cs.specs.Splice.{kept, dropped, splice}
-use Rattle.ep_cs.proofs.Plain.{length-text_of}
+use Rattle.ep_cs.specs.Splice.{kept, splice}
 use Rattle.ep_history.specs.History.{lacks_newline, newline, newline_edit}
 
-abbrev lacks : Text → Bool
-lacks [] = true
-lacks (u ∷ []) = not (is_newline u)
-lacks (u ∷ (v ∷ us)) = lacks (v ∷ us)
-
-lacks-text : (doc : Doc) → lacks_newline doc ≡ lacks (text_of doc)
-lacks-text [] = refl
-lacks-text (c ∷ []) = refl
-lacks-text (c ∷ (d ∷ doc)) = lacks-text (d ∷ doc)
-
-whole-lacks : (us : Text) → 1 ≤ length us → is_whole_lines us ≡ true → lacks us ≡ false
-whole-lacks [] h e = absurd (omega (arith, h))
-whole-lacks (u ∷ []) h e = ap not e
-whole-lacks (u ∷ (v ∷ us)) h e = whole-lacks (v ∷ us) (omega arith) e
-
-no-lines : (us : Text) → 1 ≤ length us → count_lines us ≡ 0 → lacks us ≡ true
-no-lines [] h e = absurd (omega (arith, h))
-no-lines (u ∷ []) h e = one (is_newline u) e
-  where
-    one : (b : Bool) → cond b 1 0 + 0 ≡ 0 → not b ≡ true
-    one true e = absurd (omega (arith, e))
-    one false e = refl
-no-lines (u ∷ (v ∷ us)) h e = no-lines (v ∷ us) (omega arith) (omega (arith, e))
-
-tail-lacks : (k : ℕ) (us : Text) → k < length us → count_lines (drop k us) ≡ 0 → lacks us ≡ true
-tail-lacks zero us h e = no-lines us (omega (arith, h)) e
-tail-lacks (suc k) [] h e = absurd (omega (arith, h))
-tail-lacks (suc k) (u ∷ []) h e = absurd (omega (arith, h))
-tail-lacks (suc k) (u ∷ (v ∷ us)) h e = tail-lacks k (v ∷ us) (omega (arith, h)) e
-
-pub seen-empty : (doc : Doc) → length (text_of doc) ≡ 0 → lacks_newline doc ≡ true
-seen-empty [] e = refl
-seen-empty (c ∷ doc) e = absurd (omega (arith, e))
-
-positive : (n : ℕ) → nat_lt 0 (suc n) ≡ true
-positive n = grind (arith, nat_tests)
-
-pub seen-tail : (doc : Doc) (units tail : ℕ) → units ≡ length (text_of doc) → (units ≡ 0 → ⊥) → tail ≤ units → is_whole_lines (take (units - tail) (text_of doc)) ≡ true → count_lines (drop (units - tail) (text_of doc)) ≡ 0
-    → lacks_newline doc ≡ nat_lt 0 tail
-seen-tail doc units zero u some h w c =
-    let whole : is_whole_lines (text_of doc) ≡ true = ap is_whole_lines (sym (take_all (units - 0) (text_of doc) (omega (arith, u)))) ∙ w in
-    lacks-text doc ∙ whole-lacks (text_of doc) (omega (arith, u, some)) whole
-seen-tail doc units (suc tail) u some h w c = lacks-text doc ∙ tail-lacks (units - suc tail) (text_of doc) (omega (arith, u, h)) c ∙ sym (positive tail)
+pub whole-lacking : (doc : Doc) → (length doc ≡ 0 → ⊥) → lacks_newline doc ≡ not (is_whole_lines (text_of doc))
+whole-lacking [] some = absurd (some refl)
+whole-lacking (c ∷ []) some = refl
+whole-lacking (c ∷ (d ∷ doc)) some = whole-lacking (d ∷ doc) (λ e. omega (arith, e))
 
 settle-kept : (n : ℕ) (piece : List Cell) (m : ℕ) → m ≡ 0 → settle [] (kept n ++ (inserts piece ++ kept m)) ≡ record { places = (identity n).places; last = piece }
 settle-kept zero piece m e = ap (λ k. settle [] (inserts piece ++ kept k)) e ∙ ap (settle []) (append-nil (inserts piece)) ∙ settle-new [] piece

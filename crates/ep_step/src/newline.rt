@@ -15,13 +15,11 @@ use std::alloc::Global;
 /// The unit of a newline.
 const NEWLINE: u16 = 10;
 
-/// Whether a document doesn't end in a newline. It passes what is kept of each of its blocks.
+/// Whether a document doesn't end in a newline.
 pub fn lacks_newline(doc: &Doc) -> bool
     ensures { result ≡ lacks_newline doc.now }
 {
-    let mut text = doc.passing();
-    let seen = text.pass(doc.len());
-    seen.units == 0 || seen.tail > 0
+    doc.len() == 0 || !doc.is_whole_lines()
 }
 
 /// The change that gives a document a final newline.
