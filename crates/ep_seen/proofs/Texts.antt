@@ -116,6 +116,12 @@ seen_room s t us vs a b h = record {
   tail = omega (arith, a.units, b.units, a.within, h);
 }
 
+-- the last unit tells whether a text is whole lines
+pub last_newline : (us : Text) → 1 ≤ length us → is_whole_lines us ≡ is_newline (get_or us (length us - 1) 0)
+last_newline [] h = absurd (omega (arith, h))
+last_newline (u ∷ []) h = refl
+last_newline (u ∷ (v ∷ us)) h = last_newline (v ∷ us) (omega arith) ∙ ap (λ (k : ℕ). is_newline (get_or (u ∷ (v ∷ us)) k 0)) (let e : suc (length (v ∷ us) - 1) ≡ length (u ∷ (v ∷ us)) - 1 = omega arith in e)
+
 -- the last unit tells whether a text ends in the first half of a pair
 pub last_high : (us : Text) → 1 ≤ length us → ends_high us ≡ is_high (get_or us (length us - 1) 0)
 last_high [] h = absurd (omega (arith, h))

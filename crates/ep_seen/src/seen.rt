@@ -1,6 +1,6 @@
 //! What is seen of a text that is passed.
 
-ghost use Rattle.std.specs.Prelude.{◌≡◌, ◌≤◌, ◌<◌, ◌^◌, ◌+◌, ◌-◌, ◌++◌, [], true, length, take, drop, IfSome};
+ghost use Rattle.std.specs.Prelude.{◌≡◌, ◌≤◌, ◌<◌, ◌^◌, ◌+◌, ◌-◌, ◌++◌, [], true, false, length, take, drop, IfSome};
 ghost use Rattle.ep_units.specs.Text.{Text};
 ghost use Rattle.ep_cs.specs.Lines.{count_lines, is_whole_lines};
 ghost use Rattle.ep_seen.specs.Seen.{Sees, ends_high};
@@ -57,6 +57,20 @@ fn lines_of(text: &[u16]) -> u32
     }
 }
 
+/// Whether a text has a newline: several units are looked at at once.
+fn has_line(text: &[u16]) -> bool
+    ensures none { result ≡ false → count_lines text.now ≡ 0 }
+    ensures some { result ≡ true → 1 ≤ count_lines text.now }
+{
+    let mut found = false;
+    for unit in text {
+        if *unit == 10 {
+            found = true;
+        }
+    }
+    found
+}
+
 /// The text without some of its last units, none of which is a newline: several are looked at at once.
 fn without_tail(text: &[u16]) -> &[u16]
     ensures first { result.now ≡ take (length result.now) text.now }
@@ -65,7 +79,7 @@ fn without_tail(text: &[u16]) -> &[u16]
 {
     let mut rest = text;
     'groups: while let Some((front, last)) = rest.split_last_chunk::<GROUP>() {
-        if short_lines(last) > 0 {
+        if has_line(last) {
             return rest;
         }
         rest = front;
@@ -83,6 +97,8 @@ fn tail_of(text: &[u16], lines: u32) -> u32
 {
     if lines == 0 {
         text.len() as u32
+    } else if text[text.len() - 1] == 10 {
+        0
     } else {
         (text.len() - last_line(without_tail(text))) as u32
     }
@@ -117,13 +133,15 @@ impl Seen {
 
     /// What is seen of this text and another behind it.
     pub fn then(self, next: Seen) -> Seen
-        requires some { 1 ≤ next.units }
         requires units { self.units + next.units < 2 ^ 32 }
         requires lines { self.lines + next.lines < 2 ^ 32 }
         requires tail { self.tail + next.units < 2 ^ 32 }
         ensures units { result.units ≡ self.units + next.units }
         ensures seen { (us vs : Text) → Sees self us → Sees next vs → Sees result (us ++ vs) }
     {
+        if next.units == 0 {
+            return self;
+        }
         let tail = if next.lines > 0 {
             next.tail
         } else {

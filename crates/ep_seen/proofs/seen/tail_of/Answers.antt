@@ -1,10 +1,19 @@
-use Rattle.std.proofs.Common.{◌≡◌, ◌-◌, length, drop, arith, ap, ◌∙◌}
-use Rattle.ep_cs.specs.Lines.{count_lines}
+use Rattle.std.proofs.Common.{◌≡◌, ◌≤◌, ◌-◌, length, take, drop, take_all, arith, ap, ◌∙◌}
+use Rattle.ep_units.specs.Text.{is_newline}
+use Rattle.ep_cs.specs.Lines.{count_lines, is_whole_lines}
 use Rattle.ep_seen.proofs.Tails.{shorter}
+use Rattle.ep_seen.proofs.Texts.{last_newline, lines_within}
 use Rattle.ep_seen.proofs.seen.tail_of.Goals as goal
 
-pub returns-else-lines-eq0-clause-behind : goal.returns-else-lines-eq0-clause-behind
-returns-else-lines-eq0-clause-behind c =
+pub returns-then-text-eq10-clause-before : goal.returns-then-text-eq10-clause-before
+returns-then-text-eq10-clause-before c =
+    let text = c.args.text.now in
+    let some : 1 ≤ length text = omega (arith, c.if-lines-eq0.false, c.requires.lines, lines_within text) in
+    let all : take (length text - 0) text ≡ text = take_all (length text - 0) text (omega arith) in
+    ap is_whole_lines all ∙ last_newline text some ∙ ap is_newline c.if-text-eq10.true
+
+pub returns-else-text-eq10-clause-behind : goal.returns-else-text-eq10-clause-behind
+returns-else-text-eq10-clause-behind c =
     let rest = c.without_tail.ensures in
     let text = c.args.text.now in
     let m = c.last_line.result in

@@ -10,7 +10,7 @@ groups-preserved c =
     let cut = c.in-Some.ensures.cases in
     let at : length rest - 16 ≡ length front = omega (arith, cut.2) in
     let none : count_lines (drop (length front) rest) ≡ 0 =
-    ap (λ n. count_lines (drop n rest)) (sym at) ∙ ap count_lines (sym cut.1) ∙ sym c.short_lines.ensures ∙ omega (arith, c.if-short_lines-gt0.false) in
+    ap (λ n. count_lines (drop n rest)) (sym at) ∙ ap count_lines (sym cut.1) ∙ c.has_line.ensures.none c.if-has_line.false in
     let both = shorter c.args.text.now rest (length front) c.groups.invariant (omega (arith, cut.2)) none in
     record {
       first = cut.0 ∙ ap (λ n. take n rest) at ∙ sym both.0;

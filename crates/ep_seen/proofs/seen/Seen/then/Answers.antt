@@ -7,5 +7,5 @@ pub returns-clause-seen : goal.returns-clause-seen
 returns-clause-seen c =
     λ us vs a b. elim c.if-next-gt0.branch [
       | then-next-gt0 w ↦ rw w.tail-is (seen_anew c.args.self c.args.next us vs a b w.if-next-gt0.true)
-      | else-next-gt0 w ↦ rw w.tail-is (seen_on c.args.self c.args.next us vs a b c.requires.some (omega (arith, w.if-next-gt0.false)))
+      | else-next-gt0 w ↦ rw w.tail-is (seen_on c.args.self c.args.next us vs a b (omega arith) (omega (arith, w.if-next-gt0.false)))
     ]
