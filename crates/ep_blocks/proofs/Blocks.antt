@@ -1,8 +1,8 @@
 -- Blocks one after another, and what is seen of their text.
-use Rattle.std.proofs.Common.{◌≡◌, ℕ, suc, ◌+◌, ◌-◌, ◌≤◌, ◌<◌, ◌^◌, ◌==◌, true, false, List, [], ◌∷◌, ◌++◌, length, take, drop, get_or, refl, sym, ap, ap₂, ◌∙◌, subst, arith, append_assoc, append-nil, length-append, take-append-drop, take_all}
-use Rattle.std.proofs.lemmas.List.{map-append, take_more, length-map, take-append-le, take-map, drop-map}
+use Rattle.std.proofs.Common.{◌≡◌, ℕ, suc, ◌+◌, ◌-◌, ◌≤◌, ◌<◌, ◌^◌, ◌==◌, true, false, List, [], ◌∷◌, ◌++◌, length, take, drop, get_or, refl, sym, ap, ap₂, ◌∙◌, subst, arith, append_assoc, append-nil, length-append, length-take, drop-drop, take-append-drop, take_all}
+use Rattle.std.proofs.lemmas.List.{map-append, take_more, length-map, take-append-le, drop-append-le, take-map, drop-map}
 use Rattle.std.proofs.lemmas.Bool.Decides.{nat_tests}
-use Rattle.std.proofs.Math.Seq.{drop-append-add, take-length}
+use Rattle.std.proofs.Math.Seq.{drop-append-add, take-add, take-length}
 use Rattle.std.specs.Arc.{arc_value}
 use Rattle.std.specs.List.{AllZip, AppendsClones}
 use Rattle.std.specs.declared.sync.Arc.{Arc}
@@ -13,7 +13,7 @@ use Rattle.ep_cs.specs.Lines.{is_whole_lines}
 use Rattle.ep_seen.specs.Seen.{Sees, ends_high}
 use Rattle.ep_seen.specs.declared.seen.Seen.{Seen}
 use Rattle.ep_seen.proofs.Texts.{high-append, whole-append, not_zero, HasRoom, seen_room}
-use Rattle.ep_blocks.specs.Blocks.{all_cells, node_cells}
+use Rattle.ep_blocks.specs.Blocks.{all_cells, node_cells, IsPassed}
 
 pub length_text : (cs : List Cell) → length (text_of cs) ≡ length cs
 length_text cs = length-map cs (λ (c : Cell). c.unit)
@@ -128,3 +128,66 @@ text_take n cs = sym (take-map (λ (c : Cell). c.unit) n cs)
 
 pub text_drop : (n : ℕ) (cs : List Cell) → text_of (drop n cs) ≡ drop n (text_of cs)
 text_drop n cs = sym (drop-map (λ (c : Cell). c.unit) n cs)
+
+-- ---- what is passed of cells
+
+pub passed_room : (s : Seen) (all rest : List Cell) → IsPassed s all rest → s.units ≤ length all
+passed_room s all rest p = omega (arith, p.seen.units, length_text (take s.units all), length-take s.units all)
+
+-- some before others are passed
+pub passed_first : (s : Seen) (first left last : List Cell) → IsPassed s first left → IsPassed s (first ++ last) (left ++ last)
+passed_first s first left last p =
+    let room = passed_room s first left p in
+    record {
+      seen = subst (λ (cs : List Cell). Sees s (text_of cs)) (sym (take-append-le s.units first last room)) p.seen;
+      left = ap (λ (cs : List Cell). cs ++ last) p.left ∙ sym (drop-append-le s.units first last room);
+    }
+
+-- those behind none are passed
+pub passed_last : (s : Seen) (none last left : List Cell) → none ≡ [] → IsPassed s last left → IsPassed s (none ++ last) (none ++ left)
+passed_last s none last left e p = subst (λ (cs : List Cell). IsPassed s (cs ++ last) (cs ++ left)) (sym e) p
+
+-- some are passed, and then others
+pub passed_both : (s t r : Seen) (all mid rest : List Cell) → IsPassed s all mid → IsPassed t mid rest → r.units ≡ s.units + t.units
+    → ((us vs : Text) → Sees s us → Sees t vs → Sees r (us ++ vs)) → IsPassed r all rest
+passed_both s t r all mid rest p q n on =
+    let text : text_of (take s.units all) ++ text_of (take t.units mid) ≡ text_of (take r.units all) =
+    ap (λ (cs : List Cell). text_of (take s.units all) ++ text_of (take t.units cs)) p.left ∙ sym (text-append (take s.units all) (take t.units (drop s.units all)))
+    ∙ ap text_of (sym (take-add s.units t.units all)) ∙ ap (λ (k : ℕ). text_of (take k all)) (sym n) in
+    record {
+      seen = subst (Sees r) text (on _ _ p.seen q.seen);
+      left = q.left ∙ ap (drop t.units) p.left ∙ drop-drop t.units s.units all ∙ ap (λ (k : ℕ). drop k all) (sym n);
+    }
+
+-- the first of them up to the last, and then others
+pub passed_two : (s t r : Seen) (first none last left : List Cell) → IsPassed s first none → none ≡ [] → IsPassed t last left → r.units ≡ s.units + t.units
+    → ((us vs : Text) → Sees s us → Sees t vs → Sees r (us ++ vs)) → IsPassed r (first ++ last) (none ++ left)
+passed_two s t r first none last left p e q n on =
+    passed_both s t r (first ++ last) (none ++ last) (none ++ left) (passed_first s first none last p) (passed_last t none last left e q) n on
+
+-- some, and then the first of those that are left
+pub passed_on : (s t r : Seen) (all mid first left last : List Cell) → IsPassed s all mid → first ++ last ≡ mid → IsPassed t first left → r.units ≡ s.units + t.units
+    → ((us vs : Text) → Sees s us → Sees t vs → Sees r (us ++ vs)) → IsPassed r all (left ++ last)
+passed_on s t r all mid first left last p e q n on = passed_both s t r all (first ++ last) (left ++ last) (subst (IsPassed s all) (sym e) p) (passed_first t first left last q) n on
+
+-- ---- some cells are passed, and then the first units behind them
+
+behind : (s : Seen) (all mid rest : List Cell) (here : Text) → IsPassed s all mid → text_of mid ≡ here ++ text_of rest → here ++ text_of rest ≡ drop s.units (text_of all)
+behind s all mid rest here p e = sym e ∙ ap text_of p.left ∙ text_drop s.units all
+
+pub front_seen : (s t r : Seen) (all mid rest : List Cell) (here : Text) → IsPassed s all mid → text_of mid ≡ here ++ text_of rest → Sees t (take t.units here) → r.units ≡ s.units + t.units
+    → ((us vs : Text) → Sees s us → Sees t vs → Sees r (us ++ vs)) → Sees r (take r.units (text_of all))
+front_seen s t r all mid rest here p e b n on =
+    let text = text_of all in
+    let room : t.units ≤ length here = omega (arith, b.units, length-take t.units here) in
+    let both : take s.units text ++ take t.units here ≡ take r.units text =
+    ap (λ (us : Text). take s.units text ++ us) (sym (take-append-le t.units here (text_of rest) room) ∙ ap (take t.units) (behind s all mid rest here p e))
+    ∙ sym (take-add s.units t.units text) ∙ ap (λ (k : ℕ). take k text) (sym n) in
+    subst (Sees r) both (on _ _ (subst (Sees s) (text_take s.units all) p.seen) b)
+
+pub front_left : (s t r : Seen) (all mid rest : List Cell) (here left : Text) → IsPassed s all mid → text_of mid ≡ here ++ text_of rest → Sees t (take t.units here) → left ≡ drop t.units here → r.units ≡ s.units + t.units
+    → left ++ text_of rest ≡ drop r.units (text_of all)
+front_left s t r all mid rest here left p e b l n =
+    let room : t.units ≤ length here = omega (arith, b.units, length-take t.units here) in
+    ap (λ (us : Text). us ++ text_of rest) l ∙ sym (drop-append-le t.units here (text_of rest) room) ∙ ap (drop t.units) (behind s all mid rest here p e)
+    ∙ drop-drop t.units s.units (text_of all) ∙ ap (λ (k : ℕ). drop k (text_of all)) (sym n)

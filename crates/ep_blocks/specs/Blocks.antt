@@ -1,5 +1,5 @@
 -- Texts as nodes that they share, which are blocks, groups of blocks and pages of groups, and what is kept of the text of each.
-use Rattle.std.specs.Prelude.{◌≤◌, List, [], ◌∷◌, ◌++◌, length, Option, Some, None}
+use Rattle.std.specs.Prelude.{◌≡◌, ◌≤◌, List, [], ◌∷◌, ◌++◌, length, take, drop, Option, Some, None}
 use Rattle.std.specs.Arc.{arc_value}
 use Rattle.std.specs.declared.sync.Arc.{Arc}
 use Rattle.std.specs.declared.alloc.Global.{Global}
@@ -28,3 +28,8 @@ made (Some node) = arc_value node
 pub record IsNode (s : Seen) (cs : List Cell) : Type 0 where
   pub some : 1 ≤ length cs
   pub seen : Sees s (text_of cs)
+
+-- of all cells those are passed whose text is seen, and these are left
+pub record IsPassed (s : Seen) (all rest : List Cell) : Type 0 where
+  pub seen : Sees s (text_of (take s.units all))
+  pub left : rest ≡ drop s.units all

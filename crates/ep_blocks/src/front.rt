@@ -1,9 +1,9 @@
 //! The first of some nodes, as far as they fit.
 
-ghost use Rattle.std.specs.Prelude.{◌≡◌, ◌≤◌, ◌<◌, ◌++◌, [], length, take, drop, MatchOption, IfOk};
+ghost use Rattle.std.specs.Prelude.{◌≡◌, ◌≤◌, ◌<◌, ◌++◌, [], length, take, IfOk};
 ghost use Rattle.ep_cs.specs.Doc.{text_of};
 ghost use Rattle.ep_seen.specs.Seen.{Sees};
-ghost use Rattle.ep_blocks.specs.Blocks.{node_cells};
+ghost use Rattle.ep_blocks.specs.Blocks.{node_cells, IsPassed};
 
 use crate::node::Node;
 use ep_seen::Seen;
@@ -102,18 +102,15 @@ fn seen_within<T: Node>(nodes: &[Arc<T>], most: u32) -> Passed
     passed
 }
 
-/// Passes as many nodes as have at most so many units, if the first one has.
-pub fn pass_within<'a, T: Node>(nodes: &mut &'a [Arc<T>], most: u32) -> Option<Seen>
-    ensures { MatchOption result (nodes.new ≡ nodes.old)
-        (λ s. Sees s (text_of (take s.units (node_cells T.cells nodes.old.now))) × (node_cells T.cells nodes.new.now ≡ drop s.units (node_cells T.cells nodes.old.now)) × (1 ≤ s.units) × (s.units ≤ most)) }
+/// Passes as many nodes as have at most so many units.
+pub fn pass_within<'a, T: Node>(nodes: &mut &'a [Arc<T>], most: u32) -> Seen
+    ensures passed { IsPassed result (node_cells T.cells nodes.old.now) (node_cells T.cells nodes.new.now) }
+    ensures most { result.units ≤ most }
 {
     let passed = seen_within(*nodes, most);
-    if passed.seen.units == 0 {
-        return None;
-    }
     let (_, later) = nodes.split_at(passed.count);
     *nodes = later;
-    Some(passed.seen)
+    passed.seen
 }
 
 /// Whether nodes that are open, one more and so many others are at most so many.

@@ -1,11 +1,10 @@
 //! Groups and pages that are passed from the first to the last.
 
-ghost use Rattle.std.specs.Prelude.{◌≡◌, ◌≤◌, ◌++◌, [], length, take, drop, MatchOption};
+ghost use Rattle.std.specs.Prelude.{◌≡◌, ◌≤◌, ◌++◌, [], length, MatchOption};
 ghost use Rattle.std.specs.Arc.{arc_value};
 ghost use Rattle.ep_units.specs.Text.{Text};
 ghost use Rattle.ep_cs.specs.Doc.{text_of};
-ghost use Rattle.ep_seen.specs.Seen.{Sees};
-ghost use Rattle.ep_blocks.specs.Blocks.{all_cells};
+ghost use Rattle.ep_blocks.specs.Blocks.{all_cells, IsPassed};
 ghost use Rattle.ep_seen.specs.Seen.{ends_high};
 
 use crate::front::{Front, pass_within, take_within};
@@ -94,18 +93,18 @@ impl<'a> Groups<'a> {
         take_within(&mut self.groups, most)
     }
 
-    /// Passes the next page or group, where it has at most so many units.
-    pub fn pass(&mut self, most: u32) -> Option<Seen>
-        ensures { MatchOption result (self.new ≡ self.old)
-            (λ s. Sees s (text_of (take s.units self.old)) × (self.new ≡ drop s.units self.old) × (1 ≤ s.units) × (s.units ≤ most)) }
+    /// Passes the next groups and pages, as far as they have at most so many units.
+    pub fn pass(&mut self, most: u32) -> Seen
+        ensures passed { IsPassed result self.old self.new }
+        ensures most { result.units ≤ most }
     {
-        if self.groups.is_empty() {
-            if let Some(seen) = pass_within(&mut self.pages, most) {
-                return Some(seen);
-            }
+        let begun = pass_within(&mut self.groups, most);
+        if !self.groups.is_empty() {
+            return begun;
         }
+        let pages = begun.then(pass_within(&mut self.pages, most - begun.units));
         self.begin();
-        pass_within(&mut self.groups, most)
+        pages.then(pass_within(&mut self.groups, most - pages.units))
     }
 
     /// Whether it ends in the first half of a pair, where anything is left.

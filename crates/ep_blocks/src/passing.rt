@@ -24,6 +24,18 @@ impl<'a> Model for Passing<'a> {
     ghost view = { text_left };
 }
 
+/// Passes the first units of a text, at most so many.
+fn pass_front(text: &mut &[u16], most: u32) -> Seen
+    ensures seen { Sees result (take result.units text.old.now) }
+    ensures rest { text.new.now ≡ drop result.units text.old.now }
+    ensures most { result.units ≤ most }
+    ensures some { 1 ≤ length text.old.now → 1 ≤ most → 1 ≤ result.units }
+{
+    let (front, later) = text.split_at(text.len().min(most as usize));
+    *text = later;
+    Seen::of(front)
+}
+
 impl<'a> Passing<'a> {
     /// Passes what is next, of at most so many units.
     fn pass_piece(&mut self, most: u32) -> Seen
@@ -33,18 +45,20 @@ impl<'a> Passing<'a> {
         ensures seen { Sees result (take result.units self.old) }
         ensures rest { self.new ≡ drop result.units self.old }
     {
-        if self.here.is_empty() {
-            if let Some(seen) = self.ahead.pass(most) {
-                return seen;
-            }
-            match self.ahead.take() {
-                None => return Seen::nothing(),
-                Some(block) => self.here = block.text(),
+        if !self.here.is_empty() {
+            return pass_front(&mut self.here, most);
+        }
+        let seen = self.ahead.pass(most);
+        if seen.units == most {
+            return seen;
+        }
+        match self.ahead.take() {
+            None => seen,
+            Some(block) => {
+                self.here = block.text();
+                seen.then(pass_front(&mut self.here, most - seen.units))
             }
         }
-        let (front, later) = self.here.split_at(self.here.len().min(most as usize));
-        self.here = later;
-        Seen::of(front)
     }
 
     /// Passes so many units.

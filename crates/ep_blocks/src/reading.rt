@@ -126,7 +126,8 @@ impl<'a> Reading<'a> {
         ensures rest { self.new ≡ drop result self.old }
     {
         if self.here.is_over() {
-            if let Some(seen) = self.ahead.pass(most) {
+            let seen = self.ahead.pass(most);
+            if seen.units > 0 {
                 return seen.units;
             }
         }
