@@ -1,6 +1,6 @@
 //! What a spelling is appended to: a text, or bytes.
 
-ghost use Rattle.std.specs.Prelude.{◌≡◌, ◌<◌, ◌++◌, ◌∷◌, [], OnOk};
+ghost use Rattle.std.specs.Prelude.{◌≡◌, ◌<◌, ◌≤◌, ◌++◌, ◌∷◌, [], OnOk};
 ghost use Rattle.ep_units.specs.Base36.{digit, write36};
 
 use ep_units::{NoMemory, Units, write36};
@@ -36,23 +36,23 @@ fn digit(value: u64) -> u8
     requires { value < 36 }
     ensures { result ≡ digit value }
 {
-    if value < 10 {
-        48 + value as u8
-    } else {
-        87 + value as u8
-    }
+    (if value < 10 { 48 + value } else { 87 + value }) as u8
 }
 
-/// Appends the digits of a number, the highest first.
+/// Appends the digits of a number that has two or more, the highest first.
 #[tactic(auto, using(ep_units::proofs::Digits::write36_small))]
 fn put_digits(n: u64, out: &mut Vec<u8>) -> Result<(), NoMemory>
+    requires { 36 ≤ n }
     ensures { OnOk result (out.new.items ≡ out.old.items ++ write36 n) }
 {
-    if n < 36 {
-        out.push(digit(n))?;
-        return Ok(());
+    if n < 1296 {
+        out.push(digit(n / 36))?;
+    } else if n < 46656 {
+        out.push(digit(n / 36 / 36))?;
+        out.push(digit(n / 36 % 36))?;
+    } else {
+        put_digits(n / 36, out)?;
     }
-    put_digits(n / 36, out)?;
     out.push(digit(n % 36))?;
     Ok(())
 }
@@ -65,7 +65,13 @@ impl Spell for Vec<u8> {
         Ok(())
     }
 
+    #[inline(always)]
+    #[tactic(auto, using(ep_units::proofs::Digits::write36_small))]
     fn put36(&mut self, n: u64) -> Result<(), NoMemory> {
+        if n < 36 {
+            self.push(digit(n))?;
+            return Ok(());
+        }
         put_digits(n, self)
     }
 }
