@@ -4,3 +4,4 @@ pub mod Adding
 pub mod Distinct
 pub mod Again
 pub mod Ascii
+pub mod Spelled

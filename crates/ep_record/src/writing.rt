@@ -99,32 +99,38 @@ fn narrow(units: &[u16], bytes: &mut [u8]) -> bool
     ascii
 }
 
-/// Whether each is a character of one byte.
-fn are_ascii(bytes: &[u8]) -> bool
-    ensures { result ≡ is_ascii bytes.now }
-{
-    bytes.iter().all(|byte| *byte < 128)
-}
-
 /// Makes of four bytes, the front of a text and room for its rest how many bytes the text has, and the text. Says whether
-/// that is ASCII; else they are of no use.
+/// the rest is ASCII; else they are of no use.
 #[tactic(auto, unfolding(crate::specs::Bytes::count))]
 fn set_text(rest: &[u16], bytes: &mut [u8]) -> bool
     requires room { COUNT + length rest.now ≤ length bytes.old }
     requires few { length bytes.old < COUNT + 2 ^ 32 }
-    ensures ascii { result ≡ true → is_ascii (begun bytes.old (length rest.now) ++ rest.now) ≡ true }
+    ensures ascii { result ≡ is_ascii rest.now }
     ensures bytes { result ≡ true → bytes.new ≡ count (length (begun bytes.old (length rest.now) ++ rest.now)) ++ (begun bytes.old (length rest.now) ++ rest.now) }
 {
     let (count, text) = bytes.split_at_mut(COUNT);
     count.copy_from_slice(&(text.len() as u32).to_be_bytes());
-    let (front, back) = text.split_at_mut(text.len() - rest.len());
-    narrow(rest, back) && are_ascii(front)
+    let (_, back) = text.split_at_mut(text.len() - rest.len());
+    narrow(rest, back)
 }
 
-/// Ends a text that was begun at a place, by four bytes and its front. Where it is ASCII, it is counted; otherwise all of it
-/// goes, and this says so.
+/// Makes room for how many bytes a text has.
+#[inline(always)]
+fn begin_text(out: &mut Vec<u8>) -> Result<(), NoMemory>
+    ensures { OnOk result (out.new.items ≡ out.old.items ++ 0 ∷ 0 ∷ 0 ∷ 0 ∷ []) }
+{
+    out.push(0)?;
+    out.push(0)?;
+    out.push(0)?;
+    out.push(0)?;
+    Ok(())
+}
+
+/// Ends a text that was begun at a place, by four bytes and its front, which is ASCII. Where its rest is too, it is counted;
+/// otherwise all of it goes, and this says so.
 fn end_text(at: usize, rest: &[u16], out: &mut Vec<u8>) -> Result<bool, Fault>
-    requires { at + COUNT ≤ length out.old.items }
+    requires room { at + COUNT ≤ length out.old.items }
+    requires front { is_ascii (drop (at + COUNT) out.old.items) ≡ true }
     ensures put { IfOk result (λ ascii. ascii ≡ true → (out.new.items ≡ take at out.old.items ++ text (drop (at + COUNT) out.old.items ++ rest.now)) × IsText (drop (at + COUNT) out.old.items ++ rest.now)) }
     ensures not { IfOk result (λ ascii. ascii ≡ false → out.new.items ≡ take at out.old.items) }
     ensures memory { IsErrOf result (Fault.NoRecord) → ⊥ }
@@ -150,7 +156,7 @@ fn put_ascii(units: &[u16], out: &mut Vec<u8>) -> Result<bool, Fault>
     ensures memory { IsErrOf result (Fault.NoRecord) → ⊥ }
 {
     let at = out.len();
-    out.extend_from_slice(&[0; COUNT])?;
+    begin_text(out)?;
     end_text(at, units, out)
 }
 
@@ -167,7 +173,7 @@ fn put_spelling(
     ensures memory { IsErrOf result (Fault.NoRecord) → ⊥ }
 {
     let at = out.len();
-    out.extend_from_slice(&[0; COUNT])?;
+    begin_text(out)?;
     print_front(alloc, done, pairs, out)?;
     end_text(at, done.bank().as_slice(), out)
 }

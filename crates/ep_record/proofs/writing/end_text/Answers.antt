@@ -1,7 +1,8 @@
-use Rattle.std.proofs.Common.{◌≡◌, ◌+◌, ◌-◌, ◌≤◌, ◌<◌, ◌^◌, ◌++◌, List, ℕ, true, length, take, drop, ◌∙◌, sym, ap, subst, rules, arith, length-append, length-drop}
+use Rattle.std.proofs.Common.{◌≡◌, ◌+◌, ◌-◌, ◌≤◌, ◌<◌, ◌^◌, ◌++◌, List, ℕ, true, length, take, drop, ◌∙◌, sym, ap, rules, arith, length-append, length-drop}
 use Rattle.ep_record.specs.Bytes.{count}
 use Rattle.ep_record.specs.Writing.{begun, is_ascii}
 use Rattle.ep_record.proofs.Ascii.{room_filled, begun_kept, front_kept}
+use Rattle.ep_record.proofs.Spelled.{ascii_both}
 use Rattle.ep_record.proofs.writing.end_text.Goals as goal
 
 pub returns-else-not-ascii-clause-put : goal.returns-else-not-ascii-clause-put
@@ -15,7 +16,7 @@ returns-else-not-ascii-clause-put c ascii =
     let bytes = c.set_text-ascii.new.bytes in
     let us = drop (at + 4) old ++ rest in
     let made = c.deref_mut.ensures.value ∙ c.in_ok-resize.ensures.items in
-    let inside : at + 4 ≤ length old = c.requires in
+    let inside : at + 4 ≤ length old = c.requires.room in
     let all : n ≡ length old + length rest = omega (arith, c.in_ok-resize.ensures.len, c.len.ensures, inside) in
     let size : length whole ≡ length old + length rest = omega (arith, all, c.deref_mut.ensures.len) in
     let m = at + 4 + ((c.len.result - at) - 4 + length rest) in
@@ -24,7 +25,7 @@ returns-else-not-ascii-clause-put c ascii =
     ap (λ (bs : List ℕ). begun bs (length rest)) c.split_at_mut-added.ensures.back ∙ begun_kept old _ whole at m (length rest) inside more size made in
     let first : front ≡ take at old = c.split_at_mut-added.ensures.front ∙ front_kept old _ whole at m (omega (arith, inside)) more made in
     let set : bytes ≡ count (length us) ++ us = c.set_text-ascii.ensures.bytes ascii ∙ ap (λ (bs : List ℕ). count (length (bs ++ rest)) ++ (bs ++ rest)) kept in
-    let is : is_ascii us ≡ true = subst (λ (bs : List ℕ). is_ascii (bs ++ rest) ≡ true) kept (c.set_text-ascii.ensures.ascii ascii) in
+    let is : is_ascii us ≡ true = ascii_both (drop (at + 4) old) rest c.requires.front (sym c.set_text-ascii.ensures.ascii ∙ ascii) in
     let sum : n ≡ length front + length bytes = search rules in
     let few : length us < 2 ^ 32 = omega (arith, length-append (drop (at + 4) old) rest, length-drop (at + 4) old, c.if-units-gt-MOST_BYTES.false, c.len.ensures, inside) in
     room_filled (take at old) us front bytes _ n first set (sum ∙ sym (length-append front bytes)) is few
