@@ -58,7 +58,6 @@ pub(crate) fn put_ops(alloc: Global, ops: &[Op], pool: &mut Pool) -> Result<(), 
 }
 
 /// The pool of just the pairs that operations name.
-#[inline(always)]
 fn pool_of(alloc: Global, ops: &[Op]) -> Result<Pool, NoMemory>
     ensures { IfOk result (λ pool. pool.pairs ≡ pairs_named ops.now) }
 {
