@@ -1,4 +1,4 @@
-use Rattle.std.proofs.Common.{rules, length, ◌≡◌, ◌+◌, ◌++◌, ◌∷◌, [], List, ℕ, IfOk, true, false, take, drop, ◌∙◌, ap, subst}
+use Rattle.std.proofs.Common.{rules, length, ◌≡◌, ◌+◌, ◌++◌, List, ℕ, IfOk, true, false, drop, ◌∙◌, ap, subst}
 use Rattle.ep_record.specs.Bytes.{text, IsText}
 use Rattle.ep_record.proofs.Ascii.{front_behind}
 use Rattle.ep_record.proofs.Spelled.{front_ascii}
