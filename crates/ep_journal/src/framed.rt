@@ -1,6 +1,7 @@
 //! Records that are ready to be appended.
 
-ghost use Rattle.std.specs.Prelude.{◌≡◌, ◌+◌, ◌≤◌, length, IfOk};
+ghost use Rattle.std.specs.Prelude.{◌≡◌, ◌+◌, ◌≤◌, ◌++◌, drop, length, IfOk};
+ghost use Rattle.std.specs.Int.{w32, to_be_bytes};
 ghost use Rattle.ep_journal.specs.File.{frame_of};
 
 use ep_units::NoMemory;
@@ -33,7 +34,17 @@ impl Framed {
     {
         &self.bytes
     }
+
+    /// The record in its frame, for whoever uses its memory again.
+    pub fn into_bytes(self) -> Vec<u8>
+        ensures { result.items ≡ frame_of self }
+    {
+        self.bytes
+    }
 }
+
+/// So many bytes of a frame stand before its record.
+pub const FRONT: usize = 4;
 
 /// A record, ready to be appended.
 pub fn frame(alloc: Global, rec: &[u8]) -> Result<Framed, NoMemory>
@@ -56,4 +67,38 @@ fn framed_bytes(alloc: Global, rec: &[u8]) -> Result<Vec<u8>, AllocError>
     bytes.extend_from_slice(rec)?;
     bytes.push(0)?;
     Ok(bytes)
+}
+
+/// A record that was written behind the first bytes of a frame, whatever these are: ready to be appended, in the same memory.
+pub fn frame_behind(bytes: Vec<u8>) -> Result<Framed, NoMemory>
+    requires front { FRONT ≤ length bytes.items }
+    requires small { length bytes.items ≤ 67108868 }
+    ensures { IfOk result (λ framed. framed ≡ drop FRONT bytes.items) }
+{
+    match closed(bytes) {
+        Ok(bytes) => Ok(Framed { bytes }),
+        Err(AllocError) => Err(NoMemory),
+    }
+}
+
+/// The same, with its frame.
+fn closed(bytes: Vec<u8>) -> Result<Vec<u8>, AllocError>
+    requires front { FRONT ≤ length bytes.items }
+    requires small { length bytes.items ≤ 67108868 }
+    ensures { IfOk result (λ framed. framed.items ≡ frame_of (drop FRONT bytes.items)) }
+{
+    let mut bytes = bytes;
+    set_size(&mut bytes);
+    bytes.push(0)?;
+    Ok(bytes)
+}
+
+/// Writes how many bytes stand behind the front over it.
+fn set_size(bytes: &mut [u8])
+    requires front { FRONT ≤ length bytes.old }
+    requires small { length bytes.old ≤ 67108868 }
+    ensures { bytes.new ≡ to_be_bytes w32 (length (drop FRONT bytes.old)) ++ drop FRONT bytes.old }
+{
+    let (front, rec) = bytes.split_at_mut(FRONT);
+    front.copy_from_slice(&(rec.len() as u32).to_be_bytes());
 }

@@ -14,7 +14,7 @@ mod scanning;
 mod steps;
 mod walking;
 
-pub use framed::{Framed, frame};
+pub use framed::{FRONT, Framed, frame, frame_behind};
 pub use head::RECORD_MAX;
 pub use journal::Journal;
 pub use journal_bad::JournalBad;

@@ -19,9 +19,9 @@ ghost use Rattle.ep_pad_file.specs.Stopping.{IsStopped};
 use crate::prepared::Prepared;
 use crate::refusals::pad_bad;
 use ep_history::PadBad;
-use ep_journal::{Framed, Journal, RECORD_MAX, frame};
+use ep_journal::{FRONT, Framed, Journal, RECORD_MAX, frame_behind};
 use ep_outside::{Crash, Disk, Image, Refused};
-use ep_record::{Record, decode, encode};
+use ep_record::{Record, decode, encode_behind};
 use std::alloc::Global;
 
 /// The records of a pad in the file of a disk.
@@ -30,6 +30,8 @@ use std::alloc::Global;
 #[derive(Drop)]
 pub struct PadFile<D: Disk> {
     journal: Journal<D>,
+    // memory for the next record's bytes
+    spare: Option<Vec<u8>>,
 }
 
 impl<D: Disk> PadFile<D> {
@@ -65,7 +67,10 @@ impl<D: Disk> PadFile<D> {
         ensures later { MatchResult result (λ file. D.failures disk ≤ D.failures (disk_of file)) (λ refused. D.failures disk ≤ D.failures refused.back) }
     {
         match Journal::open(alloc, disk, limit) {
-            Ok(journal) => Ok(PadFile { journal }),
+            Ok(journal) => Ok(PadFile {
+                journal,
+                spare: None,
+            }),
             Err(refused) => Err(Refused {
                 back: refused.back,
                 why: pad_bad(refused.why),
@@ -167,9 +172,9 @@ impl<D: Disk> PadFile<D> {
         ensures stop { D.left (disk_of self.new) ≡ D.left (disk_of self.old) }
         ensures marks { KeepsMarks D.is_steady D.stops_alone D.left (disk_of self.old) (disk_of self.new) }
     {
-        let bytes = encode(alloc, entry)?;
-        self.takes(bytes.len() as u64)?;
-        let framed = frame(alloc, &bytes)?;
+        let bytes = encode_behind(alloc, &[0; FRONT], entry, self.spare.take())?;
+        self.takes((bytes.len() - FRONT) as u64)?;
+        let framed = frame_behind(bytes)?;
         self.journal.reserve(&framed)?;
         Ok(Prepared::new(framed, entry))
     }
@@ -237,7 +242,10 @@ impl<D: Disk> PadFile<D> {
         ensures later { D.failures (disk_of self.old) ≤ D.failures (disk_of self.new) }
     {
         match self.journal.append(prepared.framed()) {
-            Ok(_) => Ok(()),
+            Ok(_) => {
+                self.spare = prepared.into_spare();
+                Ok(())
+            }
             Err(why) => Err(pad_bad(why)),
         }
     }

@@ -7,6 +7,9 @@ use ep_journal::Framed;
 use ep_record::Record;
 use std::marker::Model;
 
+/// Of more bytes the memory isn't kept for another record.
+const MOST_SPARE: usize = 65_536;
+
 /// A record as it will stand in the file.
 #[derive(Drop)]
 pub struct Prepared {
@@ -41,5 +44,14 @@ impl Prepared {
         ensures small { length result.now ≤ 67108864 }
     {
         &self.framed
+    }
+
+    /// Its memory for another record, unless that is much.
+    pub(crate) fn into_spare(self) -> Option<Vec<u8>> {
+        let bytes = self.framed.into_bytes();
+        if bytes.capacity() > MOST_SPARE {
+            return None;
+        }
+        Some(bytes)
     }
 }

@@ -18,7 +18,7 @@ use ep_csread::{own_pool, print, print_front};
 use ep_history::Record;
 use ep_pool::Pool;
 use ep_units::{NoMemory, Session, TextBad, Units, well_formed_has_no_lone_half};
-use std::alloc::Global;
+use std::alloc::{AllocError, Global};
 
 /// For how many bytes there is room at first: the record of a letter has fewer.
 const ROOM: usize = 128;
@@ -306,12 +306,38 @@ fn put(alloc: Global, entry: &Record, out: &mut Vec<u8>) -> Result<(), Fault>
     }
 }
 
+/// An empty vector, in memory that is to spare.
+fn cleared(alloc: Global, spare: Option<Vec<u8>>) -> Result<Vec<u8>, AllocError>
+    ensures { IfOk result (λ v. v.items ≡ []) }
+{
+    let Some(mut out) = spare else {
+        return Vec::with_capacity(alloc, ROOM);
+    };
+    out.clear();
+    Ok(out)
+}
+
 /// The bytes of a record, where it has some.
 pub(crate) fn written(alloc: Global, entry: &Record) -> Result<Vec<u8>, Fault>
     ensures bytes { IfOk result (λ v. IsEncoding v.items entry.now) }
     ensures none { IsErrOf result (Fault.NoRecord) → IsRecord entry.now → ⊥ }
 {
-    let mut out = Vec::with_capacity(alloc, ROOM)?;
+    written_behind(alloc, &[], entry, None)
+}
+
+/// The same behind other bytes.
+fn written_behind(
+    alloc: Global,
+    front: &[u8],
+    entry: &Record,
+    spare: Option<Vec<u8>>,
+) -> Result<Vec<u8>, Fault>
+    ensures front { IfOk result (λ v. take (length front.now) v.items ≡ front.now) }
+    ensures bytes { IfOk result (λ v. IsEncoding (drop (length front.now) v.items) entry.now) }
+    ensures none { IsErrOf result (Fault.NoRecord) → IsRecord entry.now → ⊥ }
+{
+    let mut out = cleared(alloc, spare)?;
+    out.extend_from_slice(front)?;
     put(alloc, entry, &mut out)?;
     Ok(out)
 }
@@ -324,6 +350,22 @@ pub fn encode(alloc: Global, entry: &Record) -> Result<Vec<u8>, NoMemory>
     ensures { IfOk result (λ v. IsEncoding v.items entry.now) }
 {
     match written(alloc, entry) {
+        Ok(bytes) => Ok(bytes),
+        Err(_) => Err(NoMemory),
+    }
+}
+
+/// The same behind other bytes, in memory that is to spare.
+pub fn encode_behind(
+    alloc: Global,
+    front: &[u8],
+    entry: &Record,
+    spare: Option<Vec<u8>>,
+) -> Result<Vec<u8>, NoMemory>
+    ensures front { IfOk result (λ v. take (length front.now) v.items ≡ front.now) }
+    ensures bytes { IfOk result (λ v. IsEncoding (drop (length front.now) v.items) entry.now) }
+{
+    match written_behind(alloc, front, entry, spare) {
         Ok(bytes) => Ok(bytes),
         Err(_) => Err(NoMemory),
     }

@@ -29,19 +29,19 @@ returns-in-Ok-clause-stopped_early g c rs calls h few is image left =
     let t = held_tells _ rs h in
     stands_same rs t.0.seen image t.2 (c.append.ensures.stopped_early t.0 calls t.1 few is image left)
 
-pub returns-clause-any_moment : goal.returns-clause-any_moment
-returns-clause-any_moment g c rs h =
+pub returns-in-Err-clause-any_moment : goal.returns-in-Err-clause-any_moment
+returns-in-Err-clause-any_moment g c rs h =
     let t = held_tells _ rs h in
     weaker g.D.Disk.moment g.D.Disk.since _ _ _ (IsOldOrMore rs (c.args.prepared ∷ []))
     (λ image is. one_or_other rs c.args.prepared t.0.seen image c.framed.result.now t.2 c.framed.ensures.bytes is) (c.append.ensures.any_moment t.0 t.1)
 
-pub returns-clause-by_gate : goal.returns-clause-by_gate
-returns-clause-by_gate g c k rs told s =
+pub returns-in-Err-clause-by_gate : goal.returns-in-Err-clause-by_gate
+returns-in-Err-clause-by_gate g c k rs told s =
     weaker g.D.Disk.moment g.D.Disk.since _ _ _ (standing.IsByGate _ rs c.args.prepared)
     (λ image is. by_gate _ rs c.args.prepared k.seen image c.framed.result.now s c.framed.ensures.bytes is) (c.append.ensures.by_gate k told)
 
-pub returns-clause-stopped_early : goal.returns-clause-stopped_early
-returns-clause-stopped_early g c rs calls h few is image left =
+pub returns-in-Err-clause-stopped_early : goal.returns-in-Err-clause-stopped_early
+returns-in-Err-clause-stopped_early g c rs calls h few is image left =
     let t = held_tells _ rs h in
     stands_same rs t.0.seen image t.2 (c.append.ensures.stopped_early t.0 calls t.1 few is image left)
 
@@ -55,8 +55,8 @@ returns-in-Ok-clause-left g c rs h =
     let images = λ (image : List ℕ) (left : IsImage (g.D.Disk.told c.append.new.self.disk) image). run.each image (g.met.D.Disk.counts_now _ _ image run.later left) in
     (run, left_images _ rs (r ∷ []) images (g.met.D.Disk.reads_as_left _) (λ d now. synced_as_read _ d _ _ rs (r ∷ []) now c.in-Ok.ensures.ready.held (g.met.D.Disk.reads_as_left _) images))
 
-pub returns-clause-left : goal.returns-clause-left
-returns-clause-left g c rs h =
+pub returns-in-Err-clause-left : goal.returns-in-Err-clause-left
+returns-in-Err-clause-left g c rs h =
     let t = held_tells _ rs h in
     let r = c.args.prepared in
     let rest = (held_rest _ t.0 _ _ t.1 c.requires.ready.held).1 in
@@ -65,8 +65,8 @@ returns-clause-left g c rs h =
     let images = λ (image : List ℕ) (left : IsImage (g.D.Disk.told c.append.new.self.disk) image). run.each image (g.met.D.Disk.counts_now _ _ image run.later left) in
     (run, left_images _ rs (r ∷ []) images (g.met.D.Disk.reads_as_left _) (λ d now. unfinished rs r t.0.seen d.synced c.framed.result.now rest t.2 c.framed.ensures.bytes c.framed.ensures.small (c.in-Err.ensures.synced t.0 d t.1 now).1))
 
-pub returns-clause-synced : goal.returns-clause-synced
-returns-clause-synced g c rs h =
+pub returns-in-Err-clause-synced : goal.returns-in-Err-clause-synced
+returns-in-Err-clause-synced g c rs h =
     let t = held_tells _ rs h in
     let r = c.args.prepared in
     let rest = (held_rest _ t.0 _ _ t.1 c.requires.ready.held).1 in
@@ -81,8 +81,8 @@ returns-in-Ok-clause-acknowledged g c rs h image left =
     let t = held_tells _ rs h in
     stands_more rs c.args.prepared t.0.seen image c.framed.result.now t.2 c.framed.ensures.bytes (c.in-Ok.ensures.acknowledged t.0 t.1 image left)
 
-pub returns-clause-stopped_late : goal.returns-clause-stopped_late
-returns-clause-stopped_late g c rs h alone is =
+pub returns-in-Err-clause-stopped_late : goal.returns-in-Err-clause-stopped_late
+returns-in-Err-clause-stopped_late g c rs h alone is =
     let t = held_tells _ rs h in
     halfway _ rs c.args.prepared t.0.seen c.framed.result.now t.2 c.framed.ensures.bytes
     (c.append.ensures.stopped_late t.0 t.1 (omega (arith, c.requires.room.limit, ap (λ (l : List ℕ). length l) c.framed.ensures.bytes.same)) alone is)
@@ -105,8 +105,8 @@ returns-in-Ok-clause-stopped g c rs calls h alone left asked d image told is =
     (c.append.ensures.stopped_late t.0 t.1 (omega (arith, c.requires.room.limit, ap (λ (l : List ℕ). length l) enc.same)) alone (left ∙ ap (λ (n : ℕ). Some n) three))))
     asked image is
 
-pub returns-clause-stopped : goal.returns-clause-stopped
-returns-clause-stopped g c rs calls h alone left asked d image told is =
+pub returns-in-Err-clause-stopped : goal.returns-in-Err-clause-stopped
+returns-in-Err-clause-stopped g c rs calls h alone left asked d image told is =
     let t = held_tells _ rs h in
     let r = c.args.prepared in
     let enc = c.framed.ensures.bytes in
