@@ -24,13 +24,13 @@ const SPACING: usize = 100;
 
 /// Near the head the document of one revision in so many is kept, so that a base there is fewer applications away, and not
 /// up to 99 from its frame.
-const NEAR: usize = 4;
+const NEAR: usize = 8;
 
 /// Which of so many revisions that is: the second, which is never a frame, since its number is odd.
 const SECOND: usize = 2;
 
 /// So many of these documents are kept at most: they go back about as far as a frame does.
-const MOST_NEAR: usize = 24;
+const MOST_NEAR: usize = 12;
 
 /// The document of a revision near the head.
 #[derive(Drop)]
