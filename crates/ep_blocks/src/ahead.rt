@@ -110,6 +110,7 @@ impl<'a> Ahead<'a> {
     }
 
     /// Passes the next blocks, groups and pages, as far as they have at most so many units.
+    #[inline(always)]
     pub fn pass(&mut self, most: u32) -> Seen
         ensures passed { IsPassed result self.old self.new }
         ensures most { result.units ≤ most }

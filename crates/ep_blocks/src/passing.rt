@@ -62,6 +62,7 @@ impl<'a> Passing<'a> {
     }
 
     /// Passes so many units.
+    #[inline(always)]
     pub fn pass(&mut self, units: u32) -> Seen
         requires { units ≤ length self.old }
         ensures seen { Sees result (take units self.old) }

@@ -128,6 +128,7 @@ fn begin_text(out: &mut Vec<u8>) -> Result<(), NoMemory>
 
 /// Ends a text that was begun at a place, by four bytes and its front, which is ASCII. Where its rest is too, it is counted;
 /// otherwise all of it goes, and this says so.
+#[inline(always)]
 fn end_text(at: usize, rest: &[u16], out: &mut Vec<u8>) -> Result<bool, Fault>
     requires room { at + COUNT ≤ length out.old.items }
     requires front { is_ascii (drop (at + COUNT) out.old.items) ≡ true }
@@ -189,6 +190,7 @@ fn put_utf8(alloc: Global, us: &Units, out: &mut Vec<u8>) -> Result<(), Fault>
 }
 
 /// Most texts are ASCII, and need no string.
+#[inline(always)]
 fn put_text(alloc: Global, us: &Units, out: &mut Vec<u8>) -> Result<(), Fault>
     ensures { Adds result out.old.items out.new.items (text us.now) (IsText us.now) }
 {
@@ -237,6 +239,7 @@ fn put_pool(alloc: Global, pairs: &Pool, out: &mut Vec<u8>) -> Result<(), Fault>
 }
 
 #[tactic(auto, unfolding(crate::specs::Bytes::change))]
+#[inline(always)]
 fn put_change(alloc: Global, done: &Change, out: &mut Vec<u8>) -> Result<(), Fault>
     ensures { Adds result out.old.items out.new.items (change done.now) (IsChange done.now) }
 {

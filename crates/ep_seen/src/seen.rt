@@ -118,6 +118,7 @@ impl Seen {
     }
 
     /// What is seen of a text.
+    #[inline(always)]
     pub fn of(text: &[u16]) -> Seen
         requires { length text.now < 2 ^ 32 }
         ensures { Sees result text.now }

@@ -49,6 +49,7 @@ impl Made {
 
     /// A step of it, with the newline where `lacks` says that its document lacks one. Of 2^32 units or more memory is
     /// said to be wanting.
+    #[inline(always)]
     pub(crate) fn closed(self, alloc: Global, lacks: bool) -> Result<Step, NoMemory>
         requires { lacks ≡ lacks_newline self.doc }
         ensures { IfOk result (λ s. (e : Edit) (head : ADoc) → self ≡ made_of e head → s ≡ step_of e head) }

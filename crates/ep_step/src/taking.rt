@@ -55,6 +55,7 @@ impl Head<'_> {
     /// It is refused by its base, by an author that it names, where it doesn't fit its base, and last where the
     /// document would be too long, its newline counted: each as `ep_history` says, the first cause that is there. The
     /// first three are asked before memory is taken.
+    #[inline(always)]
     pub fn take(
         &self,
         alloc: Global,

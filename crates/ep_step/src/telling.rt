@@ -25,6 +25,7 @@ pub struct Committed {
 
 impl Taken {
     /// What is told of it, where the head was this revision.
+    #[inline(always)]
     pub fn committed(&self, alloc: Global, last: u64) -> Result<Committed, NoMemory>
         requires { last + 1 < 2 ^ 64 }
         ensures { IfOk result (λ told. (pad : PadState) (e : Edit) → last ≡ head (newest pad) → self.now ≡ taken_of e (head_doc (newest pad))
