@@ -92,6 +92,20 @@ impl<D: Disk> PadMachine<D> {
         if self.is_open {
             return Ok(());
         }
+        self.open_again()
+    }
+
+    /// It is closed. Apart from `wake`, so that a call of an open machine makes no room for what opening one needs.
+    #[cold]
+    #[inline(never)]
+    fn open_again(&mut self) -> Result<(), PadBad>
+        requires { self.old.is_open ≡ false }
+        ensures wakes { (st : MachineState) → IsKeptState st → Stands D.told D.failures self.old st → MatchResult result
+            (λ _. (mid : MachineState) × IsWoken st mid × Comes D.told D.failures D.moment D.since D.is_steady D.stops_alone D.left self.old st self.new mid)
+            (λ bad. (new : MachineState) × Sleeps st bad new × Comes D.told D.failures D.moment D.since D.is_steady D.stops_alone D.left self.old st self.new new) }
+        ensures open { OnOk result (self.new.is_open ≡ true) }
+        ensures settled { (st : MachineState) → OnOk result (Stands D.told D.failures self.new st → MayHold (D.told self.new.disk) st.records st.pending) }
+    {
         self.file.reopen(self.alloc)?;
         self.pad = begin(self.alloc, &mut self.file, self.limits)?;
         self.is_open = true;
