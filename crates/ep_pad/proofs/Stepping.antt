@@ -20,7 +20,7 @@ use Rattle.ep_history.specs.Readings.{fetch}
 use Rattle.ep_pad_state.specs.declared.answers.Fetched.{Fetched}
 use Rattle.ep_pad_state.specs.Answering.{IsRefused, Reads, ReadsFirst, Changes}
 use Rattle.ep_pad_state.specs.Held.{IsPad}
-use Rattle.ep_pad_state.specs.Making.{after}
+use Rattle.ep_pad_state.specs.Making.{after, change_of}
 use Rattle.ep_pad_state.specs.declared.change.PadChange.{PadChange}
 use Rattle.ep_pad_state.specs.declared.change.PadChange.TheVariants as made_by
 use Rattle.ep_pad_state.specs.declared.change.Ready.{Ready}
@@ -188,25 +188,25 @@ module _ {D A : Type 0} (told_by : D → Option Contents) (failures moment : D �
 
   -- it is recorded
   recorded : (st mid : MachineState) (old m new : Held D) (e : Entry) (f : A → Answer) (x : Ready A) (answer : A) → IsWoken st mid → Came told_by failures moment since is_steady stops_alone left old st m mid
-      → outcome mid.pad e ≡ Records x.record (f x.answer) (after x.change mid.pad) → is_recordable e ≡ true
-      → (answer ≡ x.answer) × ((next : MachineState) × IsKept mid x.record (after x.change mid.pad) next × Came told_by failures moment since is_steady stops_alone left m mid new next)
+      → outcome mid.pad e ≡ Records x.record (f x.answer) (after (change_of x) mid.pad) → is_recordable e ≡ true
+      → (answer ≡ x.answer) × ((next : MachineState) × IsKept mid x.record (after (change_of x) mid.pad) next × Came told_by failures moment since is_steady stops_alone left m mid new next)
       → (next : MachineState) × IsStep size st e (Ok (f answer)) next × Came told_by failures moment since is_steady stops_alone left old st new next
   recorded st mid old m new e f x answer w s is can h =
       let n = h.1 in
       let o = opened told_by failures st mid m w s.0 in
-      let step = records size mid e x.record (f x.answer) (after x.change mid.pad) n.0 is can n.1.0 n.1.1 in (
+      let step = records size mid e x.record (f x.answer) (after (change_of x) mid.pad) n.0 is can n.1.0 n.1.1 in (
         n.0,
         step-woken st mid n.0 e (Ok (f answer)) w (subst (λ (y : A). IsOpenStep size mid e (Ok (f y)) n.0) (sym h.0) step),
         comes-on told_by failures moment since is_steady stops_alone left old m new st mid n.0 (first-woken st mid w)
-            (first-kept mid n.0 x.record (after x.change mid.pad) o.settled n.1) s n.2,
+            (first-kept mid n.0 x.record (after (change_of x) mid.pad) o.settled n.1) s n.2,
       )
 
   -- it is to be recorded
   pub keeps : (st mid : MachineState) (old m new : Held D) (e : Entry) (f : A → Answer) (x : Ready A) (r : Result A PadBad) → IsWoken st mid → Came told_by failures moment since is_steady stops_alone left old st m mid
-      → outcome mid.pad e ≡ Records x.record (f x.answer) (after x.change mid.pad) → is_recordable e ≡ true
-      → MatchResult r (λ answer. (answer ≡ x.answer) × ((next : MachineState) × IsKept mid x.record (after x.change mid.pad) next × Came told_by failures moment since is_steady stops_alone left m mid new next))
+      → outcome mid.pad e ≡ Records x.record (f x.answer) (after (change_of x) mid.pad) → is_recordable e ≡ true
+      → MatchResult r (λ answer. (answer ≡ x.answer) × ((next : MachineState) × IsKept mid x.record (after (change_of x) mid.pad) next × Came told_by failures moment since is_steady stops_alone left m mid new next))
       (λ bad. (next : MachineState) × IsNotKept mid x.record bad next × Came told_by failures moment since is_steady stops_alone left m mid new next)
       → (next : MachineState) × IsStep size st e (replied f r) next × Came told_by failures moment since is_steady stops_alone left old st new next
   keeps st mid old m new e f x (Ok answer) w s is can h = recorded st mid old m new e f x answer w s is can h
   keeps st mid old m new e f x (Err bad) w s is can h =
-      unrecorded told_by failures moment since is_steady stops_alone left st mid old m new e x.record (f x.answer) (after x.change mid.pad) bad w s is can h
+      unrecorded told_by failures moment since is_steady stops_alone left st mid old m new e x.record (f x.answer) (after (change_of x) mid.pad) bad w s is can h

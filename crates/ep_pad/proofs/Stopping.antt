@@ -20,7 +20,7 @@ use Rattle.ep_pad_file.specs.Stopping.{gate_behind, is_kept, IsStopped}
 use Rattle.ep_pad_file.proofs.Left.{left_stands}
 use Rattle.ep_pad_file.proofs.Telling.{asked_left, held_tells, left_tells}
 use Rattle.ep_pad_state.specs.Answering.{IsRefused}
-use Rattle.ep_pad_state.specs.Making.{after}
+use Rattle.ep_pad_state.specs.Making.{after, change_of}
 use Rattle.ep_pad_state.specs.declared.change.Ready.{Ready}
 use Rattle.ep_pad.specs.Held.{Held}
 use Rattle.ep_pad.specs.Keeping.{AllStand, IsStoppedAt}
@@ -117,13 +117,13 @@ found-unkept told within faults asked c image st e bad calls r answer pad a is c
 module _ {A : Type 0} where
   -- or was kept
   pub found-kept : (told : Option Contents) (within : Limits) (faults : ℕ) (asked : Image) (c : Contents) (image : List ℕ) (st : MachineState) (e : Entry) (f : A → Answer) (x : Ready A) (result : Result A PadBad) (calls : ℕ)
-      → IsAwake within faults st → outcome st.pad e ≡ Records x.record (f x.answer) (after x.change st.pad) → is_recordable e ≡ true → told ≡ Some c → IsAsked c asked image
+      → IsAwake within faults st → outcome st.pad e ≡ Records x.record (f x.answer) (after (change_of x) st.pad) → is_recordable e ≡ true → told ≡ Some c → IsAsked c asked image
       → MatchResult result (λ _. (journal_fault size st x.record ≡ None) × IsStopped told st.records x.record calls) (IsStoppedAt told st x.record calls)
       → (at : MachineState) × StopsIn st e (replied f result) (is_kept (gate_behind st.records) calls asked) at × MayFind within faults image at
   found-kept told within faults asked c image st e f x (Ok answer) calls a is can tells asks h =
-      found-recorded within faults image st e (Ok (f answer)) _ x.record (f x.answer) (after x.change st.pad) a is can h.0 (after-limits x.change st.pad) (λ none. cc) (h.1 asked c image tells asks)
+      found-recorded within faults image st e (Ok (f answer)) _ x.record (f x.answer) (after (change_of x) st.pad) a is can h.0 (after-limits (change_of x) st.pad) (λ none. cc) (h.1 asked c image tells asks)
   found-kept told within faults asked c image st e f x (Err bad) calls a is can tells asks h =
-      found-unkept told within faults asked c image st e bad calls x.record (f x.answer) (after x.change st.pad) a is can (after-limits x.change st.pad) tells asks h
+      found-unkept told within faults asked c image st e bad calls x.record (f x.answer) (after (change_of x) st.pad) a is can (after-limits (change_of x) st.pad) tells asks h
 
 -- ---- states that are open
 

@@ -4,7 +4,7 @@ ghost use Rattle.std.specs.Prelude.{◌≡◌, ◌≤◌, ℕ, true, Some, None,
 ghost use Rattle.ep_history.specs.Machine.{MachineState, journal_fault};
 ghost use Rattle.ep_pad_file.specs.Standing.{size};
 ghost use Rattle.ep_pad_file.specs.Stopping.{IsStopped};
-ghost use Rattle.ep_pad_state.specs.Making.{after, IsReady};
+ghost use Rattle.ep_pad_state.specs.Making.{after, change_of, IsReady};
 ghost use Rattle.ep_pad.specs.Standing.{Stands};
 ghost use Rattle.ep_history.specs.declared.pad_bad.PadBad.TheVariants as lacks;
 ghost use Rattle.ep_pad.specs.Crashes.{Comes, IsUncalled};
@@ -20,9 +20,9 @@ impl<D: Disk> PadMachine<D> {
     /// is wanting no device call was made.
     pub(crate) fn keep<A: Drop>(&mut self, ready: Ready<A>) -> Result<A, PadBad>
         requires open { self.old.is_open ≡ true }
-        requires ready { IsReady self.old.pad ready.change }
+        requires ready { IsReady self.old.pad (change_of ready) }
         ensures keeps { (st : MachineState) → Stands D.told D.failures self.old st → MatchResult result
-            (λ answer. (answer ≡ ready.answer) × ((new : MachineState) × IsKept st ready.record (after ready.change st.pad) new
+            (λ answer. (answer ≡ ready.answer) × ((new : MachineState) × IsKept st ready.record (after (change_of ready) st.pad) new
             × Comes D.told D.failures D.moment D.since D.is_steady D.stops_alone D.left self.old st self.new new))
             (λ bad. (new : MachineState) × IsNotKept st ready.record bad new
             × Comes D.told D.failures D.moment D.since D.is_steady D.stops_alone D.left self.old st self.new new) }
@@ -39,7 +39,9 @@ impl<D: Disk> PadMachine<D> {
             self.is_open = false;
             return Err(bad);
         }
-        self.pad.commit(ready.change);
+        let mut change = ready.change;
+        change.fill(ready.record);
+        self.pad.commit(change);
         Ok(ready.answer)
     }
 }

@@ -8,6 +8,7 @@ use Rattle.ep_cs.specs.Fits.{Fits}
 use Rattle.ep_cs.specs.EditFits.{is_edit}
 use Rattle.ep_history.specs.declared.rev.Rev.{Rev}
 use Rattle.ep_history.specs.declared.nop.Nop.{Nop}
+use Rattle.ep_history.specs.declared.record.Record.{Record}
 use Rattle.ep_history.specs.declared.record.Record.TheVariants as record_of
 use Rattle.ep_history.specs.History.{By, made, lacks_newline, first_rev, step_revs}
 use Rattle.ep_history.specs.Pad.{PadState, newest, with_revs, with_nops, reopened}
@@ -28,7 +29,7 @@ use Rattle.ep_pad_state.specs.declared.pad.Last.TheVariants.{There}
 use Rattle.ep_pad_state.specs.declared.pad.Pad.{Pad}
 use Rattle.ep_pad_state.specs.Nops.{HasRoom, StandFor}
 use Rattle.ep_pad_state.specs.Held.{IsPad}
-use Rattle.ep_pad_state.specs.Making.{with_birth, CanGrow, TakesRevs, TakesNop, IsReady}
+use Rattle.ep_pad_state.specs.Making.{author_in, by_author, filled, with_birth, CanGrow, TakesRevs, TakesNop, IsReady}
 use Rattle.ep_pad_state.proofs.Pads.{revs-sound, nops-sound, deleted-sound, public-sound, entered-sound}
 use Rattle.ep_pad_state.proofs.Keeping.{present-of, birth-of, head-doc-of, head-of}
 
@@ -50,6 +51,24 @@ step-ends r by e doc h = ap (λ vs. lacks_newline (made doc vs)) h ∙ ap lacks_
 pub own-step : (s : Step) (e : Edit) (doc : Doc) → s ≡ step_of e doc → s ≡ step_of s.edit.change.edit doc
 own-step s e doc h = h ∙ ap (λ x. step_of x doc) (sym (ap (λ (t : Step). t.edit.change.edit) h))
 
+-- ---- the author of a step's edit
+
+abbrev by-first : Text → List Rev → List Rev
+by-first author [] = []
+by-first author (v ∷ vs) = record v { author = author } ∷ vs
+
+-- another author's are those of the same step
+pub by-another : (r : Revised) (author : Text) (by : By) (e : Edit) (doc : Doc) → revs_of r ≡ step_revs by e doc
+    → revs_of (by_author author r) ≡ step_revs (record { author = author; session = by.session; time = by.time }) e doc
+by-another r author by e doc h = ap (by-first author) h
+
+pub grows-by : (k : Kept) (r : Revised) (author : Text) (by : By) (e : Edit) → CanGrow k r → revs_of r ≡ step_revs by e (last_doc k.revs.revs) → CanGrow k (by_author author r)
+grows-by k r author by e g h = record {
+  follow = record { edit = record { fits = g.follow.edit.fits; doc = g.follow.edit.doc }; newline = g.follow.newline };
+  ends = step-ends (by_author author r) (record { author = author; session = by.session; time = by.time }) e (last_doc k.revs.revs) (by-another r author by e (last_doc k.revs.revs) h);
+  room = g.room;
+}
+
 -- ---- ready
 
 pub ready-revs : (k : Pad) (b : Kept) (r : Revised) (by : By) (c : Change) → k.last ≡ There b → CanGrow b r
@@ -61,6 +80,14 @@ ready-revs k b r by c l g er f e = record { takes = subst (λ x. TakesRevs x r) 
         let d = head-doc-of b (newest p) (birth-of k b p h.keeps l).revs in
         subst (λ vs. IsSoundPad (with_revs p vs)) (sym (er ∙ ap (step_revs by c.edit) d))
         (revs-sound p by c h.sound (present-of k b p h.keeps l) (subst (λ doc. Fits c doc) d f) e)
+
+-- a step whose author its record keeps
+pub ready-step : (k : Pad) (b : Kept) (r : Revised) (by : By) (c : Change) (entry : Record) → k.last ≡ There b → CanGrow b r
+    → revs_of r ≡ step_revs by c.edit (last_doc b.revs.revs) → Fits c (last_doc b.revs.revs) → is_edit c.edit ≡ true → IsReady k (filled (made_by.Revisions r) entry)
+ready-step k b r by c entry l g er f e =
+    let author = author_in entry r.edit.rev.author in
+    ready-revs k b (by_author author r) (record { author = author; session = by.session; time = by.time }) c l (grows-by b r author by c.edit g er)
+    (by-another r author by c.edit (last_doc b.revs.revs) er) f e
 
 pub ready-nop : (k : Pad) (b : Kept) (x : Nop) → k.last ≡ There b → HasRoom x.session b.nops → length b.revs.revs ≡ x.rev + 1 → IsReady k (made_by.Nop x)
 ready-nop k b x l room e = record { takes = subst (λ y. TakesNop y x) (sym l) room; sound = sound }

@@ -20,7 +20,7 @@ use Rattle.ep_pad_state.specs.declared.entering.LoggedIn.{LoggedIn}
 use Rattle.ep_pad_state.specs.declared.entering.LoggedIn.TheVariants.{Entered, Makes}
 use Rattle.ep_pad_state.specs.declared.pad.Pad.{Pad}
 use Rattle.ep_pad_state.specs.Held.{IsPad}
-use Rattle.ep_pad_state.specs.Making.{after, IsReady}
+use Rattle.ep_pad_state.specs.Making.{after, change_of, IsReady}
 
 -- ---- answers of a program, as the definitions say them
 
@@ -71,14 +71,14 @@ Changes k e f r new =
 abbrev pub Readies : {A : Type 0} → Pad → Entry → (A → Answer) → Result (Ready A) PadBad → Pad → Type 0
 Readies k e f r new =
     (p : PadState) → IsPad k p
-    → IsPad new p × MatchResult r (λ x. outcome p e ≡ Records x.record (f x.answer) (after x.change p)) (IsRefused (outcome p e))
+    → IsPad new p × MatchResult r (λ x. outcome p e ≡ Records x.record (f x.answer) (after (change_of x) p)) (IsRefused (outcome p e))
 
 -- who logs in enters at once, or once the pad that is made is recorded
 abbrev pub LogsIn : PadState → Outcome → Pad → LoggedIn → Type 0
 LogsIn p o new (Entered w) = (next : PadState) × (o ≡ Answers (LoginAnswer (welcome_of w)) next) × IsPad new next
-LogsIn p o new (Makes x) = (o ≡ Records x.record (LoginAnswer (welcome_of x.answer)) (after x.change p)) × IsPad new p
+LogsIn p o new (Makes x) = (o ≡ Records x.record (LoginAnswer (welcome_of x.answer)) (after (change_of x) p)) × IsPad new p
 
 -- what was made ready can be made
 abbrev pub IsMade : Pad → LoggedIn → Type 0
 IsMade new (Entered w) = Unit {0}
-IsMade new (Makes x) = IsReady new x.change
+IsMade new (Makes x) = IsReady new (change_of x)

@@ -1,5 +1,8 @@
 -- What a change that was made ready makes of a pad.
 use Rattle.std.specs.Prelude.{◌≡◌, ◌+◌, ◌<◌, ◌≤◌, ◌^◌, true, false, List, [], ◌∷◌, ◌++◌, length}
+use Rattle.ep_units.specs.Text.{Text}
+use Rattle.ep_history.specs.declared.record.Record.{Record}
+use Rattle.ep_history.specs.declared.record.Record.TheVariants as record_of
 use Rattle.ep_history.specs.declared.rev.Rev.{Rev}
 use Rattle.ep_history.specs.declared.nop.Nop.{Nop}
 use Rattle.ep_history.specs.History.{Birth, lacks_newline, made}
@@ -12,6 +15,7 @@ use Rattle.ep_step.specs.Revised.{revs_of, AreNewRevs}
 use Rattle.ep_pad_state.specs.declared.birth.Birth.{Birth as Kept}
 use Rattle.ep_pad_state.specs.declared.change.PadChange.{PadChange}
 use Rattle.ep_pad_state.specs.declared.change.PadChange.TheVariants as made_by
+use Rattle.ep_pad_state.specs.declared.change.Ready.{Ready}
 use Rattle.ep_pad_state.specs.declared.pad.Last.{Last}
 use Rattle.ep_pad_state.specs.declared.pad.Last.TheVariants.{There, Gone}
 use Rattle.ep_pad_state.specs.declared.pad.Pad.{Pad}
@@ -26,6 +30,33 @@ birth_of (v ∷ vs) = record { first = v; later = vs; nops = [] }
 -- a pad with one birth more, which is there and not public
 abbrev pub with_birth : PadState → List Rev → PadState
 with_birth p vs = record p { births = p.births ++ birth_of vs ∷ []; present = true; public = false }
+
+-- whom a record names as the author, where it names one, and else this one
+abbrev pub author_in : Record → Text → Text
+author_in (record_of.Rev session time author fixed change) else_this = author
+author_in (record_of.Open epoch) else_this = else_this
+author_in (record_of.Create birth time text) else_this = else_this
+author_in (record_of.Delete time) else_this = else_this
+author_in (record_of.Public on) else_this = else_this
+author_in (record_of.Nop session time) else_this = else_this
+
+-- the revisions of a step, where this author made the edit
+abbrev pub by_author : Text → Revised → Revised
+by_author author r = record { edit = record { rev = record r.edit.rev { author = author }; doc = r.edit.doc }; newline = r.newline }
+
+-- a change whose author its record keeps, with that author
+abbrev pub filled : PadChange → Record → PadChange
+filled (made_by.Revisions r) entry = made_by.Revisions (by_author (author_in entry r.edit.rev.author) r)
+filled (made_by.Nop x) entry = made_by.Nop x
+filled (made_by.Birth k) entry = made_by.Birth k
+filled (made_by.FirstLogin k author read_only) entry = made_by.FirstLogin k author read_only
+filled made_by.Deletion entry = made_by.Deletion
+filled (made_by.Public on) entry = made_by.Public on
+filled (made_by.Opening seats) entry = made_by.Opening seats
+
+-- what the pad becomes once a call that was made ready is recorded
+abbrev pub change_of : {A : Type 0} → Ready A → PadChange
+change_of x = filled x.change x.record
 
 -- the pad after a change
 abbrev pub after : PadChange → PadState → PadState

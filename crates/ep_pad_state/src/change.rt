@@ -31,12 +31,28 @@ pub enum PadChange {
     Opening(Seats),
 }
 
-/// A call that isn't refused: what is to be recorded, what is answered then, and what the pad becomes.
+/// A call that isn't refused: what is to be recorded, what is answered then, and what the pad becomes. The record alone has
+/// the author of a step's edit, whose text need not be kept twice.
 #[derive(Drop)]
 pub struct Ready<A> {
     pub record: Record,
     pub answer: A,
     pub change: PadChange,
+}
+
+impl PadChange {
+    ghost use Rattle.ep_pad_state.specs.Making.{filled};
+
+    /// What its record kept for it is given to it. It takes no memory.
+    pub fn fill(&mut self, entry: Record)
+        ensures { self.new ≡ filled self.old entry }
+    {
+        if let PadChange::Revisions(revised) = self {
+            if let Record::Rev { author, .. } = entry {
+                revised.edit.rev.author = author;
+            }
+        }
+    }
 }
 
 impl Pad {

@@ -27,7 +27,7 @@ impl Pad {
     ghost use Rattle.ep_history.specs.declared.pad_bad.PadBad.TheVariants.{NoMemory as LacksMemory};
     ghost use Rattle.ep_seats.specs.Kept.{HasNext};
     ghost use Rattle.ep_pad_state.specs.Held.{IsPad};
-    ghost use Rattle.ep_pad_state.specs.Making.{after, IsReady};
+    ghost use Rattle.ep_pad_state.specs.Making.{after, change_of, IsReady};
     ghost use Rattle.ep_pad_state.specs.Answering.{Changes, LogsIn, IsMade, IsRefused, catch_up_of, welcome_of};
 
     /// Somebody logs in with a grant. An absent pad is made for the one who does, with no text.
@@ -121,9 +121,9 @@ impl Pad {
         ensures answer { (p : PadState) → IsPad self.old p → p.present ≡ false
             → IsPad self.new p × MatchResult result
             (λ x. (x.record ≡ create_record p now []) × (welcome_of x.answer ≡ welcome (create p now []) grant.now)
-            × (after x.change p ≡ with_session (create p now []) grant.now.author grant.now.read_only))
+            × (after (change_of x) p ≡ with_session (create p now []) grant.now.author grant.now.read_only))
             (λ bad. bad ≡ LacksMemory) }
-        ensures ready { IfOk result (λ x. IsReady self.new x.change) }
+        ensures ready { IfOk result (λ x. IsReady self.new (change_of x)) }
     {
         let Some(number) = self.births.checked_add(1) else {
             return Err(PadBad::NoMemory);

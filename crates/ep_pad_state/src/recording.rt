@@ -45,7 +45,7 @@ impl Pad {
     ghost use Rattle.ep_history.specs.Entries.Entry.{Accept, Create, SetText, Delete, SetPublic};
     ghost use Rattle.ep_history.specs.Entries.Answer.{CommitAnswer, BirthAnswer, Done};
     ghost use Rattle.ep_step.specs.Telling.{told_by};
-    ghost use Rattle.ep_pad_state.specs.Making.{IsReady};
+    ghost use Rattle.ep_pad_state.specs.Making.{change_of, IsReady};
     ghost use Rattle.ep_pad_state.specs.Answering.{Readies};
 
     /// A session's change of a base is brought to the head.
@@ -58,7 +58,7 @@ impl Pad {
         now: u64,
     ) -> Result<Ready<Committed>, PadBad>
         ensures answer { Readies self.old (Accept session base change now) (λ c. CommitAnswer (told_by c)) result self.new }
-        ensures ready { IfOk result (λ x. IsReady self.new x.change) }
+        ensures ready { IfOk result (λ x. IsReady self.new (change_of x)) }
     {
         let mut change = change;
         self.last.share_maps(alloc, session, &mut change);
@@ -75,7 +75,7 @@ impl Pad {
         now: u64,
     ) -> Result<Ready<Committed>, PadBad>
         ensures answer { Readies self.old (Accept session base change now) (λ c. CommitAnswer (told_by c)) result self.new }
-        ensures ready { IfOk result (λ x. IsReady self.new x.change) }
+        ensures ready { IfOk result (λ x. IsReady self.new (change_of x)) }
     {
         let author = self.seats.writer(session)?;
         let birth = match &mut self.last {
@@ -101,8 +101,7 @@ impl Pad {
             }
             Taken::Step(step) => {
                 let kept = step_record(alloc, &step, author, session, now)?;
-                let author = author.copy(alloc)?;
-                let revised = birth.revisions(alloc, step, author, session, now);
+                let revised = birth.revisions(alloc, step, Units::new(alloc), session, now);
                 Ok(Ready {
                     record: kept,
                     answer,
@@ -116,7 +115,7 @@ impl Pad {
     pub fn create(&self, alloc: Global, text: &Units, now: u64) -> Result<Ready<u64>, PadBad>
         requires { is_well_formed text.now ≡ true }
         ensures answer { Readies self.now (Create text.now now) BirthAnswer result self.now }
-        ensures ready { IfOk result (λ x. IsReady self.now x.change) }
+        ensures ready { IfOk result (λ x. IsReady self.now (change_of x)) }
     {
         if self.last.present() {
             return Err(PadBad::Exists);
@@ -145,7 +144,7 @@ impl Pad {
     ) -> Result<Ready<Committed>, PadBad>
         requires { is_well_formed text.now ≡ true }
         ensures answer { Readies self.old (SetText text.now now) (λ c. CommitAnswer (told_by c)) result self.new }
-        ensures ready { IfOk result (λ x. IsReady self.new x.change) }
+        ensures ready { IfOk result (λ x. IsReady self.new (change_of x)) }
     {
         let Last::There(birth) = &mut self.last else {
             return Err(PadBad::Gone);
@@ -172,7 +171,7 @@ impl Pad {
     /// The pad is deleted. Its memory is given back once this is made.
     pub fn delete(&self, now: u64) -> Result<Ready<()>, PadBad>
         ensures answer { Readies self.now (Delete now) (λ _. Done) result self.now }
-        ensures ready { IfOk result (λ x. IsReady self.now x.change) }
+        ensures ready { IfOk result (λ x. IsReady self.now (change_of x)) }
     {
         self.birth()?;
         Ok(Ready {
@@ -185,7 +184,7 @@ impl Pad {
     /// Whether anybody may enter a group's pad.
     pub fn set_public(&self, on: bool) -> Result<Ready<()>, PadBad>
         ensures answer { Readies self.now (SetPublic on) (λ _. Done) result self.now }
-        ensures ready { IfOk result (λ x. IsReady self.now x.change) }
+        ensures ready { IfOk result (λ x. IsReady self.now (change_of x)) }
     {
         self.birth()?;
         Ok(Ready {

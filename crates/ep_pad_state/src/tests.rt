@@ -38,7 +38,9 @@ fn a_pad_from_its_first_record_on(rt: HostRuntime) -> Result<(), Fail> {
     let LoggedIn::Makes(ready) = pad.login(alloc, &grant(alloc, "a.1")?, 7)? else {
         return Err(Fail::from(NoMemory));
     };
-    pad.commit(ready.change);
+    let mut change = ready.change;
+    change.fill(ready.record);
+    pad.commit(change);
     assert_eq!(rt; ready.answer.session.count, 1);
     assert_eq!(rt; pad.status()?.live, 1);
     Ok(())

@@ -3,7 +3,8 @@ use Rattle.std.proofs.lemmas.Result.{err_from_is_err_and}
 use Rattle.ep_outside.specs.declared.limits.Limits.{Limits}
 use Rattle.ep_pad_file.specs.Standing.{Holds, MayHold}
 use Rattle.ep_pad_file.proofs.Telling.{holds_settled}
-use Rattle.ep_pad_state.specs.Making.{after}
+use Rattle.ep_pad_state.specs.Held.{IsPad}
+use Rattle.ep_pad_state.specs.Making.{after, change_of}
 use Rattle.ep_pad.specs.Held.{Held}
 use Rattle.ep_pad.specs.Keeping.{IsKept, IsNotKept}
 use Rattle.ep_pad.specs.Keeping.IsStoppedAt.{IsUnmade, IsMade}
@@ -59,9 +60,9 @@ returns-clause-keeps g c st stands =
     let run = then-appends g.D.Disk.told g.D.Device.failures g.D.Disk.moment g.D.Disk.since c.self.inside.limits st.records _ _ _ _ (stands-only g.D.Disk.told g.D.Device.failures g.D.Disk.moment g.D.Disk.since c.self.inside.limits st.records _ _ rest c.in_ok-prepared.ensures.images)
     (rw (sym c.in_ok-prepared.ensures.prepared) (c.in_default.ensures.any_moment st.records held)) in (
       refl,
-      comes-from g.D.Disk.told g.D.Device.failures g.D.Disk.moment g.D.Disk.since g.D.Device.is_steady g.D.Disk.stops_alone g.D.Disk.left (λ new. IsKept st c.args.ready.record (after c.args.ready.change st.pad) new) _ _ _ st c.self.view_is
+      comes-from g.D.Disk.told g.D.Device.failures g.D.Disk.moment g.D.Disk.since g.D.Device.is_steady g.D.Disk.stops_alone g.D.Disk.left (λ new. IsKept st c.args.ready.record (after (change_of c.args.ready) st.pad) new) _ _ _ st c.self.view_is
           (is-kept g.D.Disk.told g.D.Device.failures g.D.Disk.moment g.D.Disk.since g.D.Device.is_steady g.D.Disk.stops_alone g.D.Disk.left st _ _ _ _ _ s on on refl (omega (arith, still, more)) (c.in_ok-prepared.ensures.machine st o.holds limit) c.in_ok-prepared.ensures.fits
-          (rw (sym c.in_ok-prepared.ensures.prepared) (c.in_default.ensures.adds st.records held)) (c.commit.ensures st.pad o.pad) (after-limits c.args.ready.change st.pad)
+          (rw (sym c.in_ok-prepared.ensures.prepared) (c.in_default.ensures.adds st.records held)) (subst (λ x. IsPad c.commit.new.self (after x st.pad)) c.fill.ensures (c.commit.ensures st.pad o.pad)) (after-limits (change_of c.args.ready) st.pad)
           run (marks-on c.in_ok-prepared.ensures.marks c.in_default.ensures.marks)),
     )
 
