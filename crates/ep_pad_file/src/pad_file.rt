@@ -154,6 +154,7 @@ impl<D: Disk> PadFile<D> {
     ///
     /// A record that has no bytes is answered as for want of memory, and so is one with which the file would have 2^64 bytes
     /// or more.
+    #[inline(always)]
     pub fn prepare(&mut self, alloc: Global, entry: &Record) -> Result<Prepared, PadBad>
         requires { IsReady D.told self.old }
         ensures prepared { IfOk result (λ prepared. prepared ≡ entry.now) }
@@ -202,6 +203,7 @@ impl<D: Disk> PadFile<D> {
     }
 
     /// Adds a record. It takes no memory.
+    #[inline(always)]
     pub fn append(&mut self, prepared: Prepared) -> Result<(), PadBad>
         requires ready { IsReady D.told self.old }
         requires room { HasRoomFor D.room self.old prepared }

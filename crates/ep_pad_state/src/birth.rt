@@ -225,6 +225,7 @@ impl Birth {
     }
 
     /// The revisions of a step of its head, where there is room for them.
+    #[inline(always)]
     pub(crate) fn revisions(
         &self,
         alloc: Global,

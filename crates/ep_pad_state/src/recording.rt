@@ -20,6 +20,7 @@ use std::alloc::Global;
 const NOBODY: Session = Session { epoch: 0, count: 0 };
 
 /// The record of a step.
+#[inline(always)]
 fn step_record(
     alloc: Global,
     step: &Step,
