@@ -8,7 +8,7 @@ use crate::draws::Draws;
 use crate::revising::{AUTHOR, NOW};
 use crate::typing::letter;
 use anyhow::{Context, Result, anyhow};
-use ep_apply::Doc;
+use ep_apply::{Doc, apply};
 use ep_cs::Change;
 use ep_disk_mem::MemDisk;
 use ep_outside::{Disk, Limits};
@@ -124,6 +124,31 @@ impl Typist {
         take(rt, &mut self.pad, self.session, base, change)
     }
 
+    /// So many letters, each at a place of what the head is after those before it.
+    fn letters(&mut self, alloc: Global, edits: u64) -> Result<Vec<Change>> {
+        let base = head(&mut self.pad)?;
+        let mut doc = text_at(&mut self.pad, base)?;
+        let mut changes = Vec::new(alloc);
+        for _ in 0..edits {
+            let at = self.draws.pick((doc.len() as usize).max(1)) as u32;
+            let change = letter(alloc, &doc, at)?;
+            doc = apply(alloc, &doc, &change)?;
+            changes.push(change)?;
+        }
+        Ok(changes)
+    }
+
+    /// Changes of the head are taken in a row, and how long all calls took is answered.
+    fn takes(&mut self, rt: &HostRuntime, changes: Vec<Change>) -> Result<Duration> {
+        let mut base = head(&mut self.pad)?;
+        let start = Instant::now(rt)?;
+        for change in changes {
+            self.pad.accept(self.session, base, change, NOW)?;
+            base = base.wrapping_add(1);
+        }
+        Ok(start.elapsed(rt)?)
+    }
+
     fn types_all(&mut self, rt: &HostRuntime, behind: u64, edits: u64) -> Result<Duration> {
         let mut spent = Duration::ZERO;
         for _ in 0..edits {
@@ -133,11 +158,17 @@ impl Typist {
     }
 }
 
-/// Edits that are taken so many revisions behind the head.
+/// Edits that are taken so many revisions behind the head; at the head they are made before, and taken in a row.
 fn taken(rt: &HostRuntime, units: u32, behind: u64, edits: u64) -> Result<()> {
     let mut typist = Typist::new(rt.alloc(), units)?;
     typist.types_all(rt, 0, behind)?;
-    let spent = typist.types_all(rt, behind, edits)?.as_nanos();
+    let spent = if behind == 0 {
+        let changes = typist.letters(rt.alloc(), edits)?;
+        typist.takes(rt, changes)?
+    } else {
+        typist.types_all(rt, behind, edits)?
+    };
+    let spent = spent.as_nanos();
     let head = head(&mut typist.pad)?;
     println!(rt; "{edits} edits taken {behind} revisions behind the head, which is {head} then")?;
     eprintln!(rt; "{spent} ns")?;
