@@ -163,21 +163,29 @@ impl<T: Text> Pad<T> {
     }
 }
 
-/// The time of the calls alone, each with an edit that was made before.
-fn time<T: Text>(text: &[u16], draws: &mut Draws) -> Duration {
-    let author: Vec<u16> = "a.s8oes9dhwrvt0zif".encode_utf16().collect();
-    let mut pad = Pad { text: T::of(text), revisions: vec![] };
+/// Letters, each at a place of what those before it make of a text; and that text.
+fn letters(text: &[u16], draws: &mut Draws) -> (Vec<Change>, Vec<u16>) {
     let mut now = text.to_vec();
-    let mut spent = Duration::ZERO;
-    for edit in 0..EDITS {
+    let changes = (0..EDITS).map(|_| {
         let at = draws.pick(now.len());
         let change = letter(&now, at);
         now.insert(at, 120);
-        let start = Instant::now();
-        let answer = pad.take(&change, &author, (1, 1), edit as u64);
-        spent += start.elapsed();
+        change
+    }).collect();
+    (changes, now)
+}
+
+/// The time of the calls in a row, with edits that were made before.
+fn time<T: Text>(text: &[u16], draws: &mut Draws) -> Duration {
+    let author: Vec<u16> = "a.s8oes9dhwrvt0zif".encode_utf16().collect();
+    let mut pad = Pad { text: T::of(text), revisions: vec![] };
+    let (changes, now) = letters(text, draws);
+    let start = Instant::now();
+    for (edit, change) in changes.iter().enumerate() {
+        let answer = pad.take(change, &author, (1, 1), edit as u64);
         assert!(black_box(answer).is_some());
     }
+    let spent = start.elapsed();
     let kept = pad.revisions.last().map(|r| (r.change.old, r.author.len(), r.session, r.time));
     assert_eq!(black_box(kept), Some((now.len() - 1, author.len(), (1, 1), EDITS as u64 - 1)));
     spent

@@ -29,6 +29,9 @@ const LIMITS: Limits = Limits {
     pads: 1,
 };
 
+/// So many edits are made before they are taken.
+const ROW: u64 = 15;
+
 /// How many units a pad has that is opened.
 const SMALL: u32 = 1_000;
 
@@ -149,6 +152,19 @@ impl Typist {
         Ok(start.elapsed(rt)?)
     }
 
+    /// Types letters into the head, in rows that are made before they are taken, and answers the time of the calls alone.
+    fn types_rows(&mut self, rt: &HostRuntime, edits: u64) -> Result<Duration> {
+        let mut spent = Duration::ZERO;
+        for row in 0..edits.div_ceil(ROW) {
+            let changes = self.letters(
+                rt.alloc(),
+                ROW.min(edits.saturating_sub(row.saturating_mul(ROW))),
+            )?;
+            spent = spent.saturating_add(self.takes(rt, changes)?);
+        }
+        Ok(spent)
+    }
+
     fn types_all(&mut self, rt: &HostRuntime, behind: u64, edits: u64) -> Result<Duration> {
         let mut spent = Duration::ZERO;
         for _ in 0..edits {
@@ -158,13 +174,12 @@ impl Typist {
     }
 }
 
-/// Edits that are taken so many revisions behind the head; at the head they are made before, and taken in a row.
+/// Edits that are taken so many revisions behind the head; at the head they are taken in rows.
 fn taken(rt: &HostRuntime, units: u32, behind: u64, edits: u64) -> Result<()> {
     let mut typist = Typist::new(rt.alloc(), units)?;
     typist.types_all(rt, 0, behind)?;
     let spent = if behind == 0 {
-        let changes = typist.letters(rt.alloc(), edits)?;
-        typist.takes(rt, changes)?
+        typist.types_rows(rt, edits)?
     } else {
         typist.types_all(rt, behind, edits)?
     };

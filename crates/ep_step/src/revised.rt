@@ -50,6 +50,7 @@ impl Made {
 
 impl Step {
     /// The revisions of the step, where this author made the edit in this session. It takes no memory.
+    #[inline(always)]
     pub fn into_revs(self, alloc: Global, author: Units, session: Session, time: u64) -> Revised
         ensures revs { (e : Edit) (head : ADoc) → self ≡ step_of e head
             → revs_of result ≡ step_revs (record { author = author; session = session; time = time }) e head }
