@@ -5,8 +5,8 @@
 
 Run it anywhere in the repository, without words; it reads crates.txt and the files of crates/ and writes nothing. It
 prints a line for each listed crate that its reader's code, definitions and proofs don't name, or that its tests alone
-name, and for each crate that is named and not listed. A program, on which no crate stands, may list crates for its tests
-alone. The exit status is 1 where there is such a line.
+name, and for each crate that is named and not listed. A crate of tests (`try_..`) and a program, on which no crate stands,
+may list crates for tests alone. The exit status is 1 where there is such a line.
 
 Known are the crates of the repository and the libraries that some line of crates.txt lists; `std` is never listed.
 """
@@ -84,7 +84,8 @@ def main():
         code, everything = read(crate)
         in_code = names(code, known) - {crate}
         in_all = names(everything, known) - {crate}
-        wanted = in_all if (TOP / "crates" / crate / "src" / "main.rt").exists() else in_code
+        may = crate.startswith("try_") or (TOP / "crates" / crate / "src" / "main.rt").exists()
+        wanted = in_all if may else in_code
         for need in needs:
             if need not in wanted:
                 found += 1

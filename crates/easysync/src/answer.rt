@@ -4,17 +4,22 @@ use crate::call::call_of;
 use crate::carry_out::carry_out;
 use crate::members::{Member, value_of};
 use crate::refusal::{Refusal, Stop};
-use crate::reply::refusal_reply;
+use crate::reply::{Reply, refusal_reply};
 use ep_pool::Pool;
 use serde_json::Value;
 use serde_json::error::Category;
 use std::alloc::{AllocError, Global};
 
+fn pool_of(alloc: Global, request: &Value) -> Result<Pool, Stop> {
+    let pool = value_of(request, Member::Pool)?;
+    Ok(Pool::from_json(alloc, pool)?)
+}
+
 /// The reply to a line that is JSON.
-fn reply(alloc: Global, request: &Value) -> Result<Value, Stop> {
+fn reply(alloc: Global, request: &Value) -> Result<Reply, Stop> {
     let call = call_of(alloc, request)?;
-    let pool = Pool::from_json(alloc, value_of(request, Member::Pool)?)?;
-    carry_out(alloc, call, &pool)
+    let pool = pool_of(alloc, request)?;
+    carry_out(alloc, &call, &pool)
 }
 
 fn request(alloc: Global, line: &str) -> Result<Value, Stop> {
@@ -25,17 +30,17 @@ fn request(alloc: Global, line: &str) -> Result<Value, Stop> {
     }
 }
 
-fn value(alloc: Global, line: &str) -> Result<Value, Stop> {
+fn made(alloc: Global, line: &str) -> Result<Reply, Stop> {
     let request = request(alloc, line)?;
     reply(alloc, &request)
 }
 
 /// The reply to a line, which is one line of JSON.
 pub fn answer(alloc: Global, line: &str) -> Result<String, AllocError> {
-    let reply = match value(alloc, line) {
+    let reply = match made(alloc, line) {
         Ok(reply) => reply,
         Err(Stop::Refused(refusal)) => refusal_reply(alloc, refusal)?,
         Err(Stop::NoMemory) => return Err(AllocError),
     };
-    reply.to_string(alloc)
+    reply.line(alloc)
 }

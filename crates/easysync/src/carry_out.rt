@@ -4,7 +4,7 @@ use crate::calc::{all_fit, applied, composed, followed, rebased};
 use crate::call::{Call, Stretch, Written};
 use crate::members::Member;
 use crate::refusal::Stop;
-use crate::reply::{change_reply, doc_reply, fits_reply, slides_reply};
+use crate::reply::{Reply, change_reply, doc_reply, fits_reply, slides_reply};
 use ep_apply::{Doc, fits};
 use ep_attr::{Attr, AttrMap};
 use ep_cs::{Change, First, MOST_UNITS};
@@ -13,11 +13,11 @@ use ep_invert::{invert, paint, splice};
 use ep_pool::Pool;
 use ep_slider::slide;
 use ep_units::Units;
-use serde_json::Value;
 use std::alloc::Global;
 
 fn change(alloc: Global, text: &str, pool: &Pool) -> Result<Change, Stop> {
-    Ok(read(alloc, &Units::from_str(alloc, text)?, pool)?)
+    let text = Units::from_str(alloc, text)?;
+    Ok(read(alloc, &text, pool)?)
 }
 
 fn changes(alloc: Global, texts: &[&str], pool: &Pool) -> Result<Vec<Change>, Stop> {
@@ -28,30 +28,39 @@ fn changes(alloc: Global, texts: &[&str], pool: &Pool) -> Result<Vec<Change>, St
     Ok(changes)
 }
 
-fn document(alloc: Global, written: Written<'_>, pool: &Pool) -> Result<Doc, Stop> {
+/// A document, as a change of an empty one.
+fn insertion(alloc: Global, written: &Written<'_>, pool: &Pool) -> Result<Change, Stop> {
     let text = Units::from_str(alloc, written.text)?;
     let attribs = Units::from_str(alloc, written.attribs)?;
-    let all = read_attribs(alloc, &text, &attribs, pool)?;
-    Ok(applied(alloc, &Doc::empty(alloc), &all)?)
+    Ok(read_attribs(alloc, &text, &attribs, pool)?)
 }
 
-fn text_with_attribs(alloc: Global, doc: Written<'_>, pool: &Pool) -> Result<Value, Stop> {
-    Ok(doc_reply(alloc, &document(alloc, doc, pool)?)?)
+fn document(alloc: Global, written: &Written<'_>, pool: &Pool) -> Result<Doc, Stop> {
+    let insertion = insertion(alloc, written, pool)?;
+    let empty = Doc::empty(alloc);
+    Ok(applied(alloc, &empty, &insertion)?)
 }
 
-fn application(alloc: Global, doc: Written<'_>, a: &str, pool: &Pool) -> Result<Value, Stop> {
+fn text_with_attribs(alloc: Global, doc: &Written<'_>, pool: &Pool) -> Result<Reply, Stop> {
+    let doc = document(alloc, doc, pool)?;
+    Ok(doc_reply(alloc, &doc)?)
+}
+
+fn application(alloc: Global, doc: &Written<'_>, a: &str, pool: &Pool) -> Result<Reply, Stop> {
     let doc = document(alloc, doc, pool)?;
     let a = change(alloc, a, pool)?;
-    Ok(doc_reply(alloc, &applied(alloc, &doc, &a)?)?)
+    let after = applied(alloc, &doc, &a)?;
+    Ok(doc_reply(alloc, &after)?)
 }
 
-fn fitting(alloc: Global, doc: Written<'_>, a: &str, pool: &Pool) -> Result<Value, Stop> {
+fn fitting(alloc: Global, doc: &Written<'_>, a: &str, pool: &Pool) -> Result<Reply, Stop> {
     let doc = document(alloc, doc, pool)?;
-    fits(&doc, &change(alloc, a, pool)?)?;
+    let a = change(alloc, a, pool)?;
+    fits(&doc, &a)?;
     Ok(fits_reply(alloc)?)
 }
 
-fn inverse(alloc: Global, doc: Written<'_>, a: &str, pool: &Pool) -> Result<Change, Stop> {
+fn inverse(alloc: Global, doc: &Written<'_>, a: &str, pool: &Pool) -> Result<Change, Stop> {
     let doc = document(alloc, doc, pool)?;
     let a = change(alloc, a, pool)?;
     fits(&doc, &a)?;
@@ -60,7 +69,7 @@ fn inverse(alloc: Global, doc: Written<'_>, a: &str, pool: &Pool) -> Result<Chan
 
 fn composition(
     alloc: Global,
-    doc: Written<'_>,
+    doc: &Written<'_>,
     a: &str,
     b: &str,
     pool: &Pool,
@@ -73,7 +82,7 @@ fn composition(
 
 fn follower(
     alloc: Global,
-    doc: Written<'_>,
+    doc: &Written<'_>,
     a: &str,
     b: &str,
     first: First,
@@ -87,7 +96,7 @@ fn follower(
 
 fn rebasing(
     alloc: Global,
-    doc: Written<'_>,
+    doc: &Written<'_>,
     a: &str,
     through: &[&str],
     pool: &Pool,
@@ -99,7 +108,7 @@ fn rebasing(
 }
 
 /// A text that would make the document longer than 4,294,967,295 units is a wrong member.
-fn splicing(
+fn spliced(
     alloc: Global,
     doc: &Doc,
     stretch: Stretch,
@@ -114,18 +123,37 @@ fn splicing(
     Ok(splice(alloc, doc, stretch.at, stretch.n, &text, &attrs)?)
 }
 
-fn painting(alloc: Global, doc: &Doc, stretch: Stretch, pairs: &[Attr]) -> Result<Change, Stop> {
+fn splicing(
+    alloc: Global,
+    doc: &Written<'_>,
+    stretch: Stretch,
+    insert: &str,
+    pairs: &[Attr],
+    pool: &Pool,
+) -> Result<Change, Stop> {
+    let doc = document(alloc, doc, pool)?;
+    spliced(alloc, &doc, stretch, insert, pairs)
+}
+
+fn painting(
+    alloc: Global,
+    doc: &Written<'_>,
+    stretch: Stretch,
+    pairs: &[Attr],
+    pool: &Pool,
+) -> Result<Change, Stop> {
+    let doc = document(alloc, doc, pool)?;
     let attrs = AttrMap::read(alloc, pairs)?;
-    Ok(paint(alloc, doc, stretch.at, stretch.n, &attrs)?)
+    Ok(paint(alloc, &doc, stretch.at, stretch.n, &attrs)?)
 }
 
 fn sliding(
     alloc: Global,
-    doc: Written<'_>,
+    doc: &Written<'_>,
     through: &[&str],
     granularity: u32,
     pool: &Pool,
-) -> Result<Value, Stop> {
+) -> Result<Reply, Stop> {
     let doc = document(alloc, doc, pool)?;
     let through = changes(alloc, through, pool)?;
     all_fit(alloc, &doc, &through)?;
@@ -133,34 +161,39 @@ fn sliding(
     Ok(slides_reply(alloc, slides)?)
 }
 
+/// The reply that tells a change, if one was made.
+fn told(alloc: Global, made: Result<Change, Stop>) -> Result<Reply, Stop> {
+    let change = made?;
+    Ok(change_reply(alloc, &change)?)
+}
+
 /// The reply to a call. Texts are read in the order in which the call has them, and a change that doesn't fit is refused
 /// before the call is made.
-pub fn carry_out(alloc: Global, call: Call<'_>, pool: &Pool) -> Result<Value, Stop> {
-    let made = match call {
-        Call::Attribs { doc } => return text_with_attribs(alloc, doc, pool),
-        Call::Apply { doc, a } => return application(alloc, doc, a, pool),
-        Call::Fits { doc, a } => return fitting(alloc, doc, a, pool),
+pub fn carry_out(alloc: Global, call: &Call<'_>, pool: &Pool) -> Result<Reply, Stop> {
+    match call {
+        Call::Attribs { doc } => text_with_attribs(alloc, doc, pool),
+        Call::Apply { doc, a } => application(alloc, doc, a, pool),
+        Call::Fits { doc, a } => fitting(alloc, doc, a, pool),
         Call::Slide {
             doc,
             through,
             granularity,
-        } => return sliding(alloc, doc, &through, granularity, pool),
-        Call::Read { a } => change(alloc, a, pool)?,
-        Call::Invert { doc, a } => inverse(alloc, doc, a, pool)?,
-        Call::Compose { doc, a, b } => composition(alloc, doc, a, b, pool)?,
-        Call::Follow { doc, a, b, first } => follower(alloc, doc, a, b, first, pool)?,
-        Call::Rebase { doc, a, through } => rebasing(alloc, doc, a, &through, pool)?,
+        } => sliding(alloc, doc, through, *granularity, pool),
+        Call::Read { a } => told(alloc, change(alloc, a, pool)),
+        Call::Invert { doc, a } => told(alloc, inverse(alloc, doc, a, pool)),
+        Call::Compose { doc, a, b } => told(alloc, composition(alloc, doc, a, b, pool)),
+        Call::Follow { doc, a, b, first } => told(alloc, follower(alloc, doc, a, b, *first, pool)),
+        Call::Rebase { doc, a, through } => told(alloc, rebasing(alloc, doc, a, through, pool)),
         Call::Splice {
             doc,
             stretch,
             insert,
             pairs,
-        } => splicing(alloc, &document(alloc, doc, pool)?, stretch, insert, &pairs)?,
+        } => told(alloc, splicing(alloc, doc, *stretch, insert, pairs, pool)),
         Call::Paint {
             doc,
             stretch,
             pairs,
-        } => painting(alloc, &document(alloc, doc, pool)?, stretch, &pairs)?,
-    };
-    Ok(change_reply(alloc, &made)?)
+        } => told(alloc, painting(alloc, doc, *stretch, pairs, pool)),
+    }
 }

@@ -13,19 +13,18 @@ mod reply;
 use crate::answer::answer;
 use std::io::{self, ErrorKind};
 
+fn print_answer<R: Print + AllocGlobal>(rt: &R, line: &str) -> io::Result<()> {
+    let answer = answer(rt.alloc(), line)?;
+    println!(rt; "{answer}")?;
+    Ok(())
+}
+
 fn main(rt: HostRuntime) -> io::Result<()> {
-    let alloc = rt.alloc();
-    for line in rt.lines(alloc) {
+    for line in rt.lines(rt.alloc()) {
         match line {
             Ok(line) if line.is_empty() => {}
-            Ok(line) => {
-                let reply = answer(alloc, &line)?;
-                println!(rt; "{reply}")?;
-            }
-            Err(error) if error.kind() == ErrorKind::InvalidData => {
-                let reply = answer(alloc, "")?;
-                println!(rt; "{reply}")?;
-            }
+            Ok(line) => print_answer(&rt, &line)?,
+            Err(error) if error.kind() == ErrorKind::InvalidData => print_answer(&rt, "")?,
             Err(error) => return Err(error),
         }
     }

@@ -74,10 +74,15 @@ pub fn texts_of(alloc: Global, request: &Value, member: Member) -> Result<Vec<&s
     Ok(texts)
 }
 
+/// The key or the value of a pair.
+fn half_of(pair: &Value, half: usize) -> Result<&str, Stop> {
+    Ok(pair.get(half).and_then(Value::as_str).ok_or(Member::Pairs)?)
+}
+
 /// A key and a value.
 fn attr_of(alloc: Global, pair: &Value) -> Result<Attr, Stop> {
-    let key = pair.get(0).and_then(Value::as_str).ok_or(Member::Pairs)?;
-    let value = pair.get(1).and_then(Value::as_str).ok_or(Member::Pairs)?;
+    let key = half_of(pair, 0)?;
+    let value = half_of(pair, 1)?;
     if pair.get(2).is_some() {
         return Err(Stop::from(Member::Pairs));
     }

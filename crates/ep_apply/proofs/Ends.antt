@@ -18,7 +18,7 @@ use Rattle.ep_cs.specs.Change.{newlines}
 use Rattle.ep_cs.proofs.Put.{run, lined, lined_none}
 use Rattle.ep_cs.proofs.Canonical.{times, settle-inserts, begins_no_drop, not_true, first_of_two, second_of_two}
 use Rattle.ep_cs.specs.Fitting.{first_cut}
-use Rattle.ep_seen.specs.Seen.{ends_high}
+use Rattle.ep_block_parts.specs.Seen.{ends_high}
 use Rattle.ep_apply.specs.PairEnds.{first_end}
 
 -- a stretch of places with one fate, which go on into one another

@@ -5,7 +5,7 @@ use Rattle.ep_cs.specs.Runs.{passed}
 use Rattle.ep_cs.specs.declared.op.Op.{Op}
 use Rattle.ep_cs.specs.declared.bad.FitBad.{FitBad}
 use Rattle.ep_cs.specs.Fitting.{first_untrue, cuts, untrue_or}
-use Rattle.ep_seen.specs.Seen.{ends_high}
+use Rattle.ep_block_parts.specs.Seen.{ends_high}
 
 -- the first pair that ends with a run
 abbrev pub first_end : ℕ → List Op → Text → Option ℕ

@@ -5,7 +5,7 @@ use Rattle.ep_attr.specs.AttrMap.{is_none}
 use Rattle.ep_cs.specs.Doc.{Cell}
 use Rattle.ep_cs.specs.Edit.{apply}
 use Rattle.ep_cs.specs.Runs.{all_passed}
-use Rattle.ep_parts.specs.Splices.{spliced}
+use Rattle.ep_block_parts.specs.Splices.{spliced}
 use Rattle.ep_cs.specs.Change.{change_of}
 use Rattle.ep_cs.specs.declared.op.Kind.{Kind}
 use Rattle.ep_cs.specs.declared.op.Op.{Op}

@@ -17,10 +17,15 @@ use std::marker::Model;
 ///
 /// It stands in pages of at most 12 groups of at most 8 blocks of at most 512 UTF-16 units; one that is short stands in groups
 /// or blocks. Documents share pages, groups and blocks.
-#[derive(Drop)]
 pub struct Doc {
     pub(crate) body: Body,
     pub(crate) units: u32,
+}
+
+impl Drop for Doc {
+    fn drop(self) {
+        let Doc { body: _, units: _ } = self;
+    }
 }
 
 impl Model for Doc {

@@ -5,7 +5,7 @@ ghost use Rattle.ep_units.specs.Text.{Text};
 ghost use Rattle.ep_cs.specs.Fits.{Fits};
 ghost use Rattle.ep_cs.specs.Runs.{all_passed, passed};
 ghost use Rattle.ep_cs.specs.Fitting.{answer, first_untrue, fit_bad, is_true};
-ghost use Rattle.ep_seen.specs.Seen.{Sees};
+ghost use Rattle.ep_block_parts.specs.Seen.{Sees};
 ghost use Rattle.ep_apply.specs.PairEnds.{cut_at, first_end, first_of, runs_bad};
 
 use crate::doc::Doc;

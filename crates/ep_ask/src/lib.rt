@@ -22,6 +22,3 @@ pub use function::Function;
 pub use param::Param;
 pub use reading::read_call;
 pub use reply::{Reply, make_reply};
-
-#[cfg(test)]
-mod tests;

@@ -41,9 +41,14 @@ impl Hash for Attr {
 }
 
 /// Pairs by strictly rising key, which copies share.
-#[derive(Drop)]
 pub struct AttrMap {
     pairs: Option<Arc<Vec<Attr>>>,
+}
+
+impl Drop for AttrMap {
+    fn drop(self) {
+        let AttrMap { pairs: _ } = self;
+    }
 }
 
 impl Model for AttrMap {
@@ -199,83 +204,4 @@ pub fn follow_change(alloc: Global, a: &AttrMap, b: &AttrMap) -> Result<AttrMap,
         return b.copy(alloc);
     }
     a.by_rule(alloc, Rule::Rest, b)
-}
-
-#[cfg(test)]
-mod tests {
-    use super::*;
-    use std::test::Fail;
-
-    /// The map of pairs that are written as `key=value,key=value`.
-    fn map(alloc: Global, text: &str) -> Result<AttrMap, NoMemory> {
-        let mut pairs = Vec::new(alloc);
-        for pair in text.split(',') {
-            if let Some((key, value)) = pair.split_once('=') {
-                pairs.push(Attr {
-                    key: Units::from_str(alloc, key)?,
-                    value: Units::from_str(alloc, value)?,
-                })?;
-            }
-        }
-        AttrMap::read(alloc, &pairs)
-    }
-
-    fn same(a: &AttrMap, b: &AttrMap) -> bool {
-        a.pairs().len() == b.pairs().len()
-            && a.pairs().iter().zip(b.pairs().iter()).all(|(a, b)| {
-                a.key.as_slice() == b.key.as_slice() && a.value.as_slice() == b.value.as_slice()
-            })
-    }
-
-    #[test]
-    fn operations(rt: HostRuntime) -> Result<(), Fail> {
-        let alloc = rt.alloc();
-        for (a, b, after, joined, followed) in [
-            (
-                "color=red",
-                "color=blue",
-                "color=blue",
-                "color=blue",
-                "color=blue",
-            ),
-            ("color=blue", "color=red", "color=red", "color=red", ""),
-            ("bold=true", "bold=", "", "bold=", "bold="),
-            ("bold=", "bold=true", "bold=true", "bold=true", ""),
-            ("b=1,a=1", "c=1,b=", "a=1,c=1", "a=1,b=,c=1", "b=,c=1"),
-            ("a=1", "", "a=1", "a=1", ""),
-            ("", "a=,b=2", "b=2", "a=,b=2", "a=,b=2"),
-            ("a=1,a=2", "a=1", "a=1", "a=1", "a=1"),
-        ] {
-            let a = map(alloc, a)?;
-            let b = map(alloc, b)?;
-            assert!(rt; same(&a.copy(alloc)?, &a));
-            assert!(rt; same(&a.apply_doc(alloc, &b)?, &map(alloc, after)?));
-            assert!(rt; same(&a.compose_change(alloc, &b)?, &map(alloc, joined)?));
-            assert!(rt; same(&follow_change(alloc, &a, &b)?, &map(alloc, followed)?));
-        }
-        Ok(())
-    }
-
-    #[test]
-    fn looked_up(rt: HostRuntime) -> Result<(), Fail> {
-        let alloc = rt.alloc();
-        assert!(rt; AttrMap::none(alloc).pairs().is_empty());
-        let map = map(alloc, "b=1,a=2,b=3")?;
-        let key = Units::from_str(alloc, "b")?;
-        assert!(rt;
-            map.get(key.as_slice())
-                .is_some_and(|value| value.as_slice() == [51].as_slice())
-        );
-        assert_eq!(rt; map.pairs().len(), 2);
-        assert!(rt; !map.has_first());
-        Ok(())
-    }
-
-    #[test]
-    fn first(rt: HostRuntime) -> Result<(), Fail> {
-        let alloc = rt.alloc();
-        assert!(rt; map(alloc, "bold=true,insertorder=first")?.has_first());
-        assert!(rt; !map(alloc, "insertorder=last")?.has_first());
-        Ok(())
-    }
 }

@@ -76,6 +76,7 @@ impl<P: PadPort + DirPort + Drop> Sitting<P> {
             typist,
         } = self;
         let _served = serve_on(rt, alloc, &pads, &*pads.pads, typist);
+        pads.end(rt);
     }
 }
 

@@ -1,4 +1,1 @@
-pub mod Blocks
-pub mod Bodies
 pub mod Inside
-pub mod Splices

@@ -4,47 +4,30 @@ ghost use Rattle.std.specs.Prelude.{◌≡◌, ◌≤◌, ◌<◌, ◌^◌, ◌+
 ghost use Rattle.ep_cs.specs.Doc.{text_of};
 ghost use Rattle.ep_cs.specs.Lines.{is_whole_lines};
 ghost use Rattle.ep_cs.specs.Runs.{cells};
-ghost use Rattle.ep_blocks.specs.Blocks.{node_cells};
-ghost use Rattle.ep_blocks.specs.Bodies.{form_cells};
-ghost use Rattle.ep_parts.specs.Splices.{spliced};
+ghost use Rattle.ep_block_nodes.specs.Blocks.{node_cells};
+ghost use Rattle.ep_block_nodes.specs.Forms.{form_cells};
+ghost use Rattle.ep_block_parts.specs.Splices.{spliced};
 
-use crate::ahead::Ahead;
-use crate::block::Block;
-use crate::node::{Group, Node, Page};
 use crate::passing::Passing;
 use crate::reading::Reading;
-use crate::splice::Splice;
-use crate::splicing::spliced;
 use crate::writer::Writer;
-use ep_parts::Within;
+use ep_block_nodes::{Ahead, Form, Node, Splice, spliced};
+use ep_block_parts::Within;
 use ep_units::{NoMemory, Units};
 use std::alloc::Global;
 use std::marker::Model;
 use std::sync::Arc;
 
-/// Blocks, if a group could have them; else groups, if a page could have them; else pages.
-pub enum Form {
-    Blocks(Vec<Arc<Block>>),
-    Groups(Vec<Arc<Group>>),
-    Pages(Vec<Arc<Page>>),
-}
-
-/// Written out, so that who drops a body knows nothing of its forms.
-impl Drop for Form {
-    fn drop(self) {
-        match self {
-            Form::Blocks(_) => {}
-            Form::Groups(_) => {}
-            Form::Pages(_) => {}
-        }
-    }
-}
-
 /// Attributed text in pages of at most 12 groups of at most 8 blocks of at most 512 UTF-16 units; one that is short is in groups
 /// or blocks. Bodies share pages, groups and blocks.
-#[derive(Drop)]
 pub struct Body {
     form: Form,
+}
+
+impl Drop for Body {
+    fn drop(self) {
+        let Body { form: _ } = self;
+    }
 }
 
 impl Model for Body {

@@ -1,10 +1,10 @@
 //! Units of a text in blocks, passed from its first unit to its last.
 
 ghost use Rattle.std.specs.Prelude.{◌≡◌, ◌≤◌, length, take, drop};
-ghost use Rattle.ep_seen.specs.Seen.{Sees, ends_high};
+ghost use Rattle.ep_block_parts.specs.Seen.{Sees, ends_high};
 
-use crate::ahead::Ahead;
-use ep_seen::{Seen, ends_high};
+use ep_block_nodes::Ahead;
+use ep_block_parts::{Seen, ends_high};
 use std::marker::Model;
 
 /// What is left of a text: of the block that is begun, and what is behind it.

@@ -3,14 +3,11 @@
 ghost use Rattle.std.specs.Prelude.{◌≡◌, ◌≤◌, ◌<◌, ◌^◌, ◌+◌, ◌++◌, [], length, take, drop, MatchOption, IfOk};
 ghost use Rattle.std.specs.Arc.{arc_value};
 ghost use Rattle.ep_cs.specs.Runs.{cells};
-ghost use Rattle.ep_blocks.specs.Blocks.{all_cells};
+ghost use Rattle.ep_block_nodes.specs.Blocks.{all_cells};
 
-use crate::ahead::Ahead;
-use crate::block::Block;
-use crate::front::Front;
-use crate::node::{Group, Page};
 use crate::writer::Writer;
-use ep_parts::{Stretch, Within};
+use ep_block_nodes::{Ahead, Block, Front, Group, Page};
+use ep_block_parts::{Stretch, Within};
 use ep_units::NoMemory;
 use std::marker::Model;
 use std::sync::Arc;

@@ -3,14 +3,12 @@
 ghost use Rattle.std.specs.Prelude.{◌≡◌, ◌≤◌, ◌<◌, ◌^◌, ◌+◌, ◌++◌, [], length, min, take, drop, OnOk, IfOk};
 ghost use Rattle.std.specs.Arc.{arc_value};
 ghost use Rattle.ep_cs.specs.Runs.{cells};
-ghost use Rattle.ep_blocks.specs.Blocks.{all_cells};
+ghost use Rattle.ep_block_nodes.specs.Blocks.{all_cells};
 
-use crate::block::{Block, MOST};
 use crate::body::Body;
-use crate::node::{Group, Node, Page};
-use crate::pile::Pile;
 use ep_attr::AttrMap;
-use ep_parts::{Parts, Within};
+use ep_block_nodes::{Block, Group, MOST_UNITS, Node, Page, Pile};
+use ep_block_parts::{Parts, Within};
 use ep_units::NoMemory;
 use std::alloc::Global;
 use std::marker::Model;
@@ -21,11 +19,20 @@ use std::sync::Arc;
 const PART: usize = 384;
 
 /// Blocks that are written, and one that is open.
-#[derive(Drop)]
 pub struct Writer {
     alloc: Global,
     pile: Pile,
     open: Parts,
+}
+
+impl Drop for Writer {
+    fn drop(self) {
+        let Writer {
+            alloc: _,
+            pile: _,
+            open: _,
+        } = self;
+    }
 }
 
 impl Model for Writer {
@@ -84,14 +91,14 @@ impl Writer {
         ensures { OnOk result (self.new ≡ self.old) }
     {
         close(self.alloc, &mut self.pile, &mut self.open)?;
-        self.open = Parts::with_room(self.alloc, MOST)?;
+        self.open = Parts::with_room(self.alloc, MOST_UNITS)?;
         Ok(())
     }
 
     // Whether a block is open, and so many units more are not too many for it.
     fn is_open_for(&self, units: usize) -> bool {
         let open = self.open.len() as usize;
-        open > 0 && units <= MOST.saturating_sub(open)
+        open > 0 && units <= MOST_UNITS.saturating_sub(open)
     }
 
     /// Adds a piece of a text with a map.
@@ -112,7 +119,7 @@ impl Writer {
         ensures { OnOk result (self.new ≡ self.old ++ cells attrs.now text.now) }
     {
         let mut rest = text;
-        'parts: while rest.len() > MOST {
+        'parts: while rest.len() > MOST_UNITS {
             let (part, later) = rest.split_at(PART);
             self.push_piece(part, attrs)?;
             rest = later;
@@ -265,8 +272,12 @@ impl Writer {
         requires { length self < 2 ^ 32 }
         ensures { IfOk result (λ body. body ≡ self) }
     {
-        let mut written = self;
-        close(written.alloc, &mut written.pile, &mut written.open)?;
-        written.pile.finish()
+        let Writer {
+            alloc,
+            mut pile,
+            mut open,
+        } = self;
+        close(alloc, &mut pile, &mut open)?;
+        Ok(Body::of(pile.finish()?))
     }
 }

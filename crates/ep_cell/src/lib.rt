@@ -12,8 +12,6 @@ mod closing;
 mod opening;
 mod passes;
 mod rule;
-#[cfg(test)]
-mod tests;
 mod view;
 
 pub use cell::{Cell, Pass, PassOf};

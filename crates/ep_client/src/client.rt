@@ -28,7 +28,6 @@ use std::mem::replace;
 /// `doc` is the document of the revision that it has heard, `sent` what it submitted, as a change of that document, and
 /// `local` what it did not, as a change of what that makes. The view is the document after both. `sent_in` is the
 /// session in which the submission was sent last, and `told` the head that was told at the last resumption, or 0.
-#[derive(Drop)]
 pub struct Client {
     rev: u64,
     doc: Doc,
@@ -39,6 +38,22 @@ pub struct Client {
     session: Session,
     connected: bool,
     told: u64,
+}
+
+impl Drop for Client {
+    fn drop(self) {
+        let Client {
+            rev: _,
+            doc: _,
+            sent: _,
+            local: _,
+            view: _,
+            sent_in: _,
+            session: _,
+            connected: _,
+            told: _,
+        } = self;
+    }
 }
 
 impl Model for Client {
@@ -393,43 +408,4 @@ fn is_here(rev: u64, here: u64) -> Result<(), ClientBad>
         return Ok(());
     }
     Err(ClientBad::OutOfOrder(rev, here))
-}
-
-#[cfg(test)]
-mod tests {
-    use super::*;
-    use std::test::Fail;
-
-    /// Each call once, with ample memory. A line is typed while another's comes in; the connection is lost before the
-    /// commit is heard.
-    #[test]
-    fn typed_submitted_lost_and_committed(rt: HostRuntime) -> Result<(), Fail> {
-        let alloc = rt.alloc();
-        let own = Session { epoch: 1, count: 1 };
-        let other = Session { epoch: 1, count: 2 };
-        let again = Session { epoch: 1, count: 3 };
-        let line = Doc::newline(alloc)?;
-        let change = line.as_insert(alloc)?;
-        let mut client = Client::start(alloc, Doc::empty(alloc), 0, own)?;
-        client.edit(alloc, &change)?;
-        let sent = client.submit(alloc)?;
-        assert!(rt; sent.is_some_and(|sent| sent.base == 0 && sent.session == own));
-        let news = Heard::Rev {
-            rev: 1,
-            change,
-            session: other,
-        };
-        assert_eq!(rt; client.hear(alloc, &news)?, Told::News);
-        client.lost();
-        client.resume(again, 1);
-        let sent = client.submit(alloc)?;
-        assert!(rt; sent.is_some_and(|sent| sent.base == 1 && sent.session == again));
-        let told = client.hear(alloc, &Heard::Commit { rev: 2 })?;
-        assert_eq!(rt; told, Told::Commit);
-        assert_eq!(rt; (client.rev(), client.view().len()), (2, 2));
-        assert_eq!(rt; client.pending(), (false, false));
-        let nop = client.hear(alloc, &Heard::Nop { rev: 2 });
-        assert_eq!(rt; nop, Err(ClientBad::NotSubmitted));
-        Ok(())
-    }
 }

@@ -19,13 +19,24 @@ use std::alloc::Global;
 use std::marker::Model;
 
 /// A change that is being written, from left to right. Each call is one operation of changeset text.
-#[derive(Drop)]
 pub struct Builder {
     alloc: Global,
     old_len: u32,
     new_len: u64,
     ops: Vec<Op>,
     bank: Units,
+}
+
+impl Drop for Builder {
+    fn drop(self) {
+        let Builder {
+            alloc: _,
+            old_len: _,
+            new_len: _,
+            ops: _,
+            bank: _,
+        } = self;
+    }
 }
 
 impl Model for Builder {
@@ -234,41 +245,5 @@ impl Builder {
                 bank,
             },
         )
-    }
-}
-
-#[cfg(test)]
-mod tests {
-    use super::*;
-    use std::test::Fail;
-
-    fn replaced(alloc: Global) -> Result<Change, NoMemory> {
-        let bare = AttrMap::none(alloc);
-        let mut builder = Builder::new(alloc, 3);
-        builder.keep(1, 0, &bare)?;
-        builder.insert(&[120], &bare)?;
-        builder.drop_units(1, 0)?;
-        builder.keep(1, 1, &bare)?;
-        builder.finish()
-    }
-
-    #[test]
-    fn drops_before_inserts(rt: HostRuntime) -> Result<(), Fail> {
-        let change = replaced(rt.alloc())?.copy(rt.alloc())?;
-        assert_eq!(rt; change.old_len(), 3);
-        assert_eq!(rt; change.new_len(), 3);
-        assert_eq!(rt; change.is_identity(), false);
-        assert_eq!(rt; change.bank().as_slice(), [120].as_slice());
-        let kinds = [Kind::Keep, Kind::Drop, Kind::Insert];
-        assert_eq!(rt; change.ops().len(), kinds.len());
-        for (op, kind) in change.ops().iter().zip(kinds) {
-            assert_eq!(rt; op.kind, kind);
-            assert_eq!(rt; op.units, 1);
-            assert_eq!(rt; op.lines, 0);
-        }
-        let identity = Change::identity(rt.alloc(), 3);
-        assert_eq!(rt; identity.is_identity(), true);
-        assert_eq!(rt; identity.old_len(), 3);
-        Ok(())
     }
 }

@@ -22,9 +22,14 @@ pub(crate) enum Kept {
 }
 
 /// A change: its normal runs, and the units that they insert. Copies share them.
-#[derive(Drop)]
 pub struct Change {
     kept: Kept,
+}
+
+impl Drop for Change {
+    fn drop(self) {
+        let Change { kept: _ } = self;
+    }
 }
 
 impl Model for Change {

@@ -90,27 +90,3 @@ pub fn new_id(alloc: Global, kind: IdKind, drawn: &Drawn, n: u64) -> Result<Unit
     push_count(&mut id, n)?;
     Ok(id)
 }
-
-#[cfg(test)]
-mod tests {
-    use super::*;
-    use std::test::Fail;
-
-    const DRAWN: Drawn = Drawn {
-        digits: [10, 11, 12, 13, 14, 15, 16, 17, 18, 35],
-    };
-
-    #[test]
-    fn ids(rt: HostRuntime) -> Result<(), Fail> {
-        for (kind, n, text) in [
-            (IdKind::Group, 0, "g.abcdefghiz000000"),
-            (IdKind::Author, 37, "a.abcdefghiz000011"),
-            (IdKind::Session, MOST_IDS - 1, "s.abcdefghizzzzzzz"),
-            (IdKind::ReadOnly, 1679616, "r.abcdefghiz010000"),
-        ] {
-            let id = new_id(rt.alloc(), kind, &DRAWN, n)?;
-            assert_eq!(rt; id.to_text_lossy(rt.alloc())?.as_str(), text);
-        }
-        Ok(())
-    }
-}

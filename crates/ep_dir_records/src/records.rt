@@ -15,10 +15,18 @@ use std::alloc::Global;
 use std::marker::Model;
 
 /// The records of a directory in a keeper.
-#[derive(Drop)]
 pub struct Records<K: Keeper> {
     keeper: K,
     pub(crate) alloc: Global,
+}
+
+impl<K: Keeper + Drop> Drop for Records<K> {
+    fn drop(self) {
+        let Records {
+            keeper: _,
+            alloc: _,
+        } = self;
+    }
 }
 
 impl<K: Keeper> Model for Records<K> {

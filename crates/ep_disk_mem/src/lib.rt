@@ -27,8 +27,3 @@ pub use mem_file::MemFile;
 pub use mem_shelf::MemShelf;
 pub use mem_sink::MemSink;
 pub use mem_source::MemSource;
-
-#[cfg(test)]
-mod shelf_tests;
-#[cfg(test)]
-mod tests;

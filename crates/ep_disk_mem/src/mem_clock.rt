@@ -41,18 +41,3 @@ impl Clock for MemClock {
         self.moment(self.shown.fetch_add(1, Ordering::SeqCst))
     }
 }
-
-#[cfg(test)]
-mod tests {
-    use super::*;
-    use std::test::Fail;
-
-    #[test]
-    fn shows_its_moments(rt: HostRuntime) -> Result<(), Fail> {
-        let clock = MemClock::new(vec![in rt.alloc(); 5, 9]?);
-        for moment in [5, 9, 9] {
-            assert_eq!(rt; clock.now_ms(), moment);
-        }
-        Ok(())
-    }
-}

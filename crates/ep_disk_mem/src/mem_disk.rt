@@ -19,7 +19,6 @@ use std::snapshot::Snapshot;
 /// A disk in memory. A call that fails does nothing but raise the count.
 ///
 /// Beside its bytes it keeps those of the last sync; a sync copies what was written since.
-#[derive(Drop)]
 pub struct MemDisk {
     held: Held,
     // ghosts alone
@@ -35,6 +34,21 @@ pub struct MemDisk {
     ghost times: { is_fresh ≡ false → vec_len past + room_calls + 1 ≤ vec_capacity past },
     ghost in_sync: { is_fresh ≡ true → (contents_of held ≡ settled held.bytes.items) × (room_calls ≡ 0) },
     ghost sound: { MayLeave (contents_of held) held.bytes.items },
+}
+
+impl Drop for MemDisk {
+    fn drop(self) {
+        let MemDisk {
+            held: _,
+            past: _,
+            calls: _,
+            room_calls: _,
+            room_bytes: _,
+            is_fresh: _,
+            asked: _,
+            bytes_read: _,
+        } = self;
+    }
 }
 
 impl MemDisk {

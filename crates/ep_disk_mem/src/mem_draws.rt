@@ -38,21 +38,3 @@ impl<'a> Draws for MemDraws<'a> {
         MemDraws { left: self.left }
     }
 }
-
-#[cfg(test)]
-mod tests {
-    use super::*;
-    use std::test::Fail;
-
-    #[test]
-    fn gives_its_numbers(rt: HostRuntime) -> Result<(), Fail> {
-        let mut draws = MemDraws::new(&[7, 8]);
-        assert_eq!(rt; draws.next(), 7);
-        let mut fork = draws.fork();
-        for number in [8, 0] {
-            assert_eq!(rt; draws.next(), number);
-            assert_eq!(rt; fork.next(), number);
-        }
-        Ok(())
-    }
-}

@@ -20,7 +20,6 @@ use std::alloc::Global;
 ///
 /// The disk of a new name never fails. The disk of a name that was opened before is empty: what the first
 /// one holds, it holds for itself.
-#[derive(Drop)]
 pub struct MemShelf {
     alloc: Global,
     slots: Vec<Slot>,
@@ -29,6 +28,17 @@ pub struct MemShelf {
     is_sure: bool,
     ghost rising: { IsTrue (rises (names_of slots.items)) },
     ghost sure: { is_sure ≡ true → (fails_never faults ≡ true) × (faults.failures ≡ 0) × IsTrue (all_sure slots.items) },
+}
+
+impl Drop for MemShelf {
+    fn drop(self) {
+        let MemShelf {
+            alloc: _,
+            slots: _,
+            faults: _,
+            is_sure: _,
+        } = self;
+    }
 }
 
 impl MemShelf {

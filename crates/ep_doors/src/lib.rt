@@ -17,6 +17,3 @@ pub use mem_spawner::MemSpawner;
 pub use serving::{Host, Served, serve};
 pub use spawner::{Job, Spawner};
 pub use thread_spawner::{Starter, ThreadSpawner, start_all};
-
-#[cfg(test)]
-mod tests;

@@ -21,16 +21,34 @@ const OWNER_ALONE: u32 = 0o600;
 // The file whose lock keeps a second server out of the folder.
 const LOCK: &str = "padd.lock";
 
+/// What of a folder was not to be had.
+#[derive(Clone, Copy, Debug, PartialEq, Eq)]
+pub enum Lacking {
+    /// It isn't there, or can't be opened.
+    Folder,
+    /// Another server has it.
+    Lock,
+}
+
 /// A folder whose files named as pads' are the disks.
 ///
 /// It holds a lock on the folder for as long as it stands, so that no two servers write one journal.
-#[derive(Drop)]
 pub struct FileShelf<R: Files<File = File>> {
     files: R,
     alloc: Global,
-    // none where the folder was not to be had
-    folder: Option<Folder>,
+    folder: Result<Folder, Lacking>,
     faults: u64,
+}
+
+impl<R: Files<File = File> + Drop> Drop for FileShelf<R> {
+    fn drop(self) {
+        let FileShelf {
+            files: _,
+            alloc: _,
+            folder: _,
+            faults: _,
+        } = self;
+    }
 }
 
 #[derive(Drop)]
@@ -49,21 +67,24 @@ impl<R: Files<File = File> + AllocGlobal + Clone + Drop> FileShelf<R> {
     pub fn open_at(rt: &R, path: &str) -> Result<FileShelf<R>, NoMemory>
         ensures { IfOk result (λ s. ⟦<FileShelf<R> as Device>⟧.failures s ≡ 0) }
     {
-        let folder = match Folder::open(rt, path) {
-            Ok(folder) => Some(folder),
-            Err(ShelfBad::NoMemory) => return Err(NoMemory),
-            Err(ShelfBad::Failed) => None,
-        };
         Ok(FileShelf {
             files: rt.clone()?,
             alloc: rt.alloc(),
-            folder,
+            folder: Folder::open(rt, path)?,
             faults: 0,
         })
     }
 }
 
 impl<R: Files<File = File>> FileShelf<R> {
+    /// What was not to be had, where each call fails for it.
+    pub fn lacking(&self) -> Option<Lacking> {
+        match &self.folder {
+            Ok(_) => None,
+            Err(lacking) => Some(*lacking),
+        }
+    }
+
     // Counts a fault, where it is one.
     fn counted(&mut self, why: ShelfBad) -> ShelfBad
         ensures same { result ≡ why }
@@ -94,27 +115,39 @@ fn path_in(alloc: Global, folder: &str, name: &str) -> Result<String, NoMemory> 
     Ok(format!(in alloc; "{folder}/{name}")?)
 }
 
+// The file of a folder's lock, which is made where it isn't there.
+fn lock_file<R: Files<File = File>>(rt: &R, path: &str) -> io::Result<File> {
+    OpenOptions::new()
+        .write(true)
+        .create(true)
+        .mode(OWNER_ALONE)
+        .open(rt, path)
+}
+
 impl Folder {
     // Opens the folder, and takes its lock.
-    fn open<R: Files<File = File> + AllocGlobal>(rt: &R, path: &str) -> Result<Folder, ShelfBad> {
+    fn open<R: Files<File = File> + AllocGlobal>(
+        rt: &R,
+        path: &str,
+    ) -> Result<Result<Folder, Lacking>, NoMemory> {
         let alloc = rt.alloc();
-        let entries = File::open(rt, path).map_err(bad)?;
         let lock_path = path_in(alloc, path, LOCK)?;
-        let lock = OpenOptions::new()
-            .write(true)
-            .create(true)
-            .mode(OWNER_ALONE)
-            .open(rt, lock_path.as_str())
-            .map_err(bad)?;
+        let path = copied(alloc, path)?;
+        let (Ok(entries), Ok(lock)) = (
+            File::open(rt, path.as_str()),
+            lock_file(rt, lock_path.as_str()),
+        ) else {
+            return Ok(Err(Lacking::Folder));
+        };
         if lock.try_lock().is_err() {
-            return Err(ShelfBad::Failed);
+            return Ok(Err(Lacking::Lock));
         }
-        Ok(Folder {
-            path: copied(alloc, path)?,
+        Ok(Ok(Folder {
+            path,
             entries,
             lock,
             is_unsure: true,
-        })
+        }))
     }
 
     // The file of a pad, which is made where it is not there. Its name is then there for good.
@@ -193,8 +226,8 @@ impl<R: Files<File = File> + AllocGlobal + Clone + Drop> Shelf for FileShelf<R> 
 
     fn names(&mut self) -> Result<Vec<PadId>, ShelfBad> {
         let found = match &self.folder {
-            Some(folder) => folder.names(&self.files),
-            None => Err(ShelfBad::Failed),
+            Ok(folder) => folder.names(&self.files),
+            Err(_) => Err(ShelfBad::Failed),
         };
         match found {
             Ok(names) => Ok(names),
@@ -204,126 +237,12 @@ impl<R: Files<File = File> + AllocGlobal + Clone + Drop> Shelf for FileShelf<R> 
 
     fn open(&mut self, name: &PadId) -> Result<FileDisk, ShelfBad> {
         let opened = match &mut self.folder {
-            Some(folder) => folder.file(&self.files, name),
-            None => Err(ShelfBad::Failed),
+            Ok(folder) => folder.file(&self.files, name),
+            Err(_) => Err(ShelfBad::Failed),
         };
         match opened {
             Ok(file) => Ok(FileDisk::new(file)),
             Err(why) => Err(self.counted(why)),
         }
-    }
-}
-
-#[cfg(test)]
-mod tests {
-    use super::*;
-    use ep_outside::{Disk, Failed};
-    use ep_units::Units;
-    use std::os::unix::fs::MetadataExt;
-    use std::test::Fail;
-
-    fn pad(alloc: Global, name: &str) -> Result<PadId, Fail> {
-        Ok(PadId::read(alloc, &Units::from_str(alloc, name)?)?.ok_or("no id")?)
-    }
-
-    fn fresh_folder(rt: &HostRuntime, path: &str) -> Result<(), Fail> {
-        let _ = fs::remove_dir_all(rt, path);
-        Ok(fs::create_dir(rt, path)?)
-    }
-
-    // Writes these bytes behind those that are there, and syncs.
-    fn append(disk: &mut FileDisk, bytes: &[u8]) -> Result<(), Fail> {
-        disk.reserve(bytes.len() as u64)?;
-        let end = disk.length()?;
-        disk.write_at(end, bytes)?;
-        Ok(disk.sync()?)
-    }
-
-    #[test]
-    fn keeps_what_was_written(rt: HostRuntime) -> Result<(), Fail> {
-        fresh_folder(&rt, "kept.shelf")?;
-        let id = pad(rt.alloc(), "pad")?;
-        let mut shelf = FileShelf::open_at(&rt, "kept.shelf")?;
-        let mut disk = shelf.open(&id)?;
-        append(&mut disk, b"abcdef")?;
-        disk.reserve(2)?;
-        disk.cut(4)?;
-        disk.write_at(1, b"XY")?;
-        drop(disk);
-        drop(shelf);
-        let mut again = FileShelf::open_at(&rt, "kept.shelf")?;
-        let mut disk = again.open(&id)?;
-        append(&mut disk, b"!")?;
-        let mut read = [0; 5];
-        disk.read(0, &mut read)?;
-        assert_eq!(rt; read.as_slice(), b"aXYd!".as_slice());
-        assert_eq!(rt; disk.length()?, 5);
-        assert_eq!(rt; (disk.faults(), again.faults()), (0, 0));
-        Ok(fs::remove_dir_all(&rt, "kept.shelf")?)
-    }
-
-    #[test]
-    fn names_of_pads_alone(rt: HostRuntime) -> Result<(), Fail> {
-        let alloc = rt.alloc();
-        fresh_folder(&rt, "named.shelf")?;
-        let mut shelf = FileShelf::open_at(&rt, "named.shelf")?;
-        assert!(rt; shelf.names()?.is_empty());
-        for name in ["b", "é", "a"] {
-            shelf.open(&pad(alloc, name)?)?;
-        }
-        fs::write(&rt, "named.shelf/6A.pad", "")?;
-        fs::write(&rt, "named.shelf/directory.db", "")?;
-        let names = shelf.names()?;
-        assert_eq!(rt; names.len(), 3);
-        for (found, name) in names.iter().zip(&["a", "b", "é"]) {
-            assert_eq!(rt; found.as_slice(), pad(alloc, name)?.as_slice());
-        }
-        let made = fs::metadata(&rt, "named.shelf/61.pad")?;
-        assert_eq!(rt; made.mode() & 0o777, 0o600);
-        Ok(fs::remove_dir_all(&rt, "named.shelf")?)
-    }
-
-    #[test]
-    fn one_server_a_folder(rt: HostRuntime) -> Result<(), Fail> {
-        fresh_folder(&rt, "locked.shelf")?;
-        let id = pad(rt.alloc(), "pad")?;
-        let first = FileShelf::open_at(&rt, "locked.shelf")?;
-        let mut second = FileShelf::open_at(&rt, "locked.shelf")?;
-        assert!(rt; matches!(second.open(&id), Err(ShelfBad::Failed)));
-        assert!(rt; matches!(second.names(), Err(ShelfBad::Failed)));
-        assert_eq!(rt; second.faults(), 2);
-        drop(first);
-        let mut third = FileShelf::open_at(&rt, "locked.shelf")?;
-        assert!(rt; third.open(&id).is_ok());
-        let mut nowhere = FileShelf::open_at(&rt, "no/such/folder")?;
-        assert!(rt; matches!(nowhere.open(&id), Err(ShelfBad::Failed)));
-        assert_eq!(rt; nowhere.faults(), 1);
-        Ok(fs::remove_dir_all(&rt, "locked.shelf")?)
-    }
-
-    #[test]
-    fn fails_past_the_end(rt: HostRuntime) -> Result<(), Fail> {
-        fresh_folder(&rt, "short.shelf")?;
-        let mut shelf = FileShelf::open_at(&rt, "short.shelf")?;
-        let mut disk = shelf.open(&pad(rt.alloc(), "pad")?)?;
-        append(&mut disk, b"abc")?;
-        assert_eq!(rt; disk.read(2, &mut [0; 2]), Err(Failed));
-        disk.reserve(0)?;
-        assert_eq!(rt; disk.cut(u64::MAX), Err(Failed));
-        assert_eq!(rt; disk.faults(), 2);
-        Ok(fs::remove_dir_all(&rt, "short.shelf")?)
-    }
-
-    #[test]
-    fn fails_where_it_cannot_write(rt: HostRuntime) -> Result<(), Fail> {
-        fresh_folder(&rt, "read.shelf")?;
-        fs::write(&rt, "read.shelf/file", "abc")?;
-        let mut disk = FileDisk::new(File::open(&rt, "read.shelf/file")?);
-        disk.reserve(1)?;
-        assert_eq!(rt; disk.write_at(0, b"x"), Err(Failed));
-        assert_eq!(rt; disk.cut(0), Err(Failed));
-        assert_eq!(rt; disk.faults(), 2);
-        assert_eq!(rt; disk.length()?, 3);
-        Ok(fs::remove_dir_all(&rt, "read.shelf")?)
     }
 }

@@ -14,7 +14,7 @@ mod sys_clock;
 mod sys_draws;
 
 pub use file_disk::FileDisk;
-pub use file_shelf::FileShelf;
+pub use file_shelf::{FileShelf, Lacking};
 pub use naming::{file_name, id_of};
 pub use standard::{StdSink, StdSource};
 pub use sys_clock::{SysClock, whole_ms};

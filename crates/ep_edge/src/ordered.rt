@@ -33,34 +33,3 @@ fn are_rising(pads: &[PadId]) -> bool
     }
     true
 }
-
-#[cfg(test)]
-mod tests {
-    use super::*;
-    use ep_units::Units;
-    use std::alloc::Global;
-    use std::test::Fail;
-
-    fn pads(alloc: Global, names: &[&str]) -> Result<Vec<PadId>, Fail> {
-        let mut pads = Vec::new(alloc);
-        for name in names {
-            let pad = PadId::read(alloc, &Units::from_str(alloc, name)?)?.ok_or("no id")?;
-            pads.push(pad)?;
-        }
-        Ok(pads)
-    }
-
-    #[test]
-    fn by_name(rt: HostRuntime) -> Result<(), Fail> {
-        let alloc = rt.alloc();
-        let sorted = in_order(pads(alloc, &["b", "ab", "\u{FFFD}", "a", "😀"])?).ok_or("twice")?;
-        let wanted = pads(alloc, &["a", "ab", "b", "😀", "\u{FFFD}"])?;
-        assert_eq!(rt; sorted.len(), wanted.len());
-        for (pad, name) in sorted.iter().zip(&wanted) {
-            assert_eq!(rt; pad.as_slice(), name.as_slice());
-        }
-        assert!(rt; in_order(pads(alloc, &["b", "a", "b"])?).is_none());
-        assert!(rt; in_order(Vec::new(alloc)).is_some());
-        Ok(())
-    }
-}

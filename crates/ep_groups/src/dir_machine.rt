@@ -9,10 +9,18 @@ use std::alloc::Global;
 use std::marker::Model;
 
 /// The directory over a keeper.
-#[derive(Drop)]
 pub struct DirMachine<K: Keeper> {
     pub(crate) records: Records<K>,
     pub(crate) alloc: Global,
+}
+
+impl<K: Keeper + Drop> Drop for DirMachine<K> {
+    fn drop(self) {
+        let DirMachine {
+            records: _,
+            alloc: _,
+        } = self;
+    }
 }
 
 impl<K: Keeper> Model for DirMachine<K> {

@@ -7,10 +7,15 @@ use ep_units::NoMemory;
 use std::alloc::Global;
 
 /// The one cell of the directory.
-#[derive(Drop)]
 pub struct Directory<K: Keeper + Drop> {
     pub(crate) alloc: Global,
     pub(crate) cell: Cell<DirMachine<K>>,
+}
+
+impl<K: Keeper + Drop> Drop for Directory<K> {
+    fn drop(self) {
+        let Directory { alloc: _, cell: _ } = self;
+    }
 }
 
 /// A pass of the directory.

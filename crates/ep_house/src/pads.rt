@@ -17,11 +17,20 @@ use std::alloc::Global;
 use std::sync::Arc;
 
 /// The pads that were opened, each behind a lock of its own, and the registry that finds them.
-#[derive(Drop)]
 pub struct Pads<H: Shelf + Drop, P: PadOver<H::D>> {
     pub(crate) alloc: Global,
     pub(crate) limits: Limits,
     pub(crate) registry: Cell<Registry<H, P>>,
+}
+
+impl<H: Shelf + Drop, P: PadOver<H::D> + Drop> Drop for Pads<H, P> {
+    fn drop(self) {
+        let Pads {
+            alloc: _,
+            limits: _,
+            registry: _,
+        } = self;
+    }
 }
 
 /// A pass of the registry.

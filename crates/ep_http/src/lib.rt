@@ -20,6 +20,3 @@ pub use bad::HttpBad;
 pub use laws::{a_source_has_one_answer, bytes_come_to_one_answer};
 pub use reply::{SinkBad, refusal, write_reply};
 pub use request::{Method, Request, read_request};
-
-#[cfg(test)]
-mod tests;

@@ -13,7 +13,7 @@ use Rattle.ep_cs.specs.Splice.{kept, dropped, splice}
 use Rattle.ep_cs.proofs.Canonical.{times, settle-inserts}
 use Rattle.ep_cs.proofs.Splices.{splice-nothing}
 use Rattle.ep_cs.specs.Fitting.{first_cut}
-use Rattle.ep_seen.specs.Seen.{ends_high}
+use Rattle.ep_block_parts.specs.Seen.{ends_high}
 use Rattle.ep_apply.proofs.Ends.{step_end, keeps_end, drops_end}
 use Rattle.ep_invert.specs.Paint.{paint_steps, paint}
 use Rattle.ep_invert.specs.Stretch.{end_cut}

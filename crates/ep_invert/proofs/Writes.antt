@@ -19,9 +19,9 @@ use Rattle.ep_cs.proofs.Stretches.{lined_stretch}
 use Rattle.ep_cursor.specs.TrueDraft.{IsTrueDraft}
 use Rattle.ep_cursor.proofs.Made.{passed-append, passed_times}
 use Rattle.ep_cursor.proofs.TrueDrafts.{true_keep, true_drop, true_insert, true_blank, true_drafted}
-use Rattle.ep_seen.specs.Seen.{Sees}
-use Rattle.ep_seen.specs.declared.seen.Seen.{Seen}
-use Rattle.ep_seen.proofs.Texts.{lines-append, lines_within}
+use Rattle.ep_block_parts.specs.Seen.{Sees}
+use Rattle.ep_block_parts.specs.declared.seen.Seen.{Seen}
+use Rattle.ep_block_parts.proofs.Texts.{lines-append, lines_within}
 use Rattle.ep_invert.specs.Paint.{paint_steps}
 use Rattle.ep_invert.specs.Writing.{GoesOn}
 

@@ -2,7 +2,7 @@
 use Rattle.std.specs.Prelude.{◌≡◌, ℕ, ◌+◌, ◌-◌, ◌≤◌, ◌<◌, ◌^◌, Bool, nat_lt, cond, length, take, drop, if◌then◌else◌, Option, Some, None, Result, Ok, Err}
 use Rattle.ep_units.specs.Text.{Text}
 use Rattle.ep_cs.specs.Doc.{Doc, text_of}
-use Rattle.ep_seen.specs.Seen.{ends_high}
+use Rattle.ep_block_parts.specs.Seen.{ends_high}
 use Rattle.ep_invert.specs.declared.bad.SpliceBad.{SpliceBad}
 use Rattle.ep_invert.specs.declared.bad.SpliceBad.TheVariants.{Place}
 use Rattle.ep_invert.specs.declared.stretch.Stretch.{Stretch}

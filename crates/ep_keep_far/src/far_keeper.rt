@@ -12,13 +12,24 @@ use std::sync::Wait;
 
 /// A keeper whose calls are made by whoever has its desk. It waits for each answer, and tells nothing of its map. What
 /// the keeper there fails at is a fault here; so is a desk that is gone.
-#[derive(Drop)]
 pub struct FarKeeper<R> {
     rt: R,
     alloc: Global,
     asked: Sender<Asked>,
     answers: Receiver<Answer>,
     faults: u64,
+}
+
+impl<R: Drop> Drop for FarKeeper<R> {
+    fn drop(self) {
+        let FarKeeper {
+            rt: _,
+            alloc: _,
+            asked: _,
+            answers: _,
+            faults: _,
+        } = self;
+    }
 }
 
 impl<R: Drop> FarKeeper<R> {

@@ -13,6 +13,3 @@ pub use ear::{Ear, NoEar};
 pub use link::Link;
 pub use mem_link::MemLink;
 pub use passed::{Coming, LinkBad, LinkGot, Passed};
-
-#[cfg(test)]
-mod tests;

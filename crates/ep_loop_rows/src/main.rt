@@ -1,15 +1,11 @@
 //! `serve` and `write` over sockets of this machine: at a port that the system chooses a server waits for one caller, and a
 //! writer in another thread writes the lines of standard input to its pad. A line tells the status of each of the two and
 //! what it wrote.
-//!
-//! The tests of `ep_serve` stand here, since they take a shelf and a keeper in memory.
 #![tactic(auto)]
 
 mod few;
 mod host;
 mod outcome;
-#[cfg(test)]
-mod serve_tests;
 
 use crate::few::Few;
 use crate::host::{Absent, server};

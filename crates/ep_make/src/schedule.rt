@@ -96,6 +96,3 @@ pub fn make<K: Sink>(
     sink.write(lines.as_bytes())?;
     Ok(())
 }
-
-#[cfg(test)]
-mod tests;

@@ -86,12 +86,21 @@ impl Peer {
 ///
 /// It is waited for ten seconds in all, from its taking on: what would have to wait longer fails. A peer that is gone
 /// has sent all, also where it left by a reset. One that failed is closed, and fails from then on.
-#[derive(Drop)]
 pub struct ApiStream<C> {
     clock: C,
     // none where it failed, or could not be waited for
     peer: Option<Peer>,
     faults: u64,
+}
+
+impl<C: Drop> Drop for ApiStream<C> {
+    fn drop(self) {
+        let ApiStream {
+            clock: _,
+            peer: _,
+            faults: _,
+        } = self;
+    }
 }
 
 impl<C: Clock> ApiStream<C> {

@@ -18,8 +18,3 @@ pub use api_stream::ApiStream;
 pub use tcp_doors::TcpDoors;
 pub use watch::WakeEar;
 pub use ws_link::WsLink;
-
-#[cfg(test)]
-mod door_tests;
-#[cfg(test)]
-mod tests;

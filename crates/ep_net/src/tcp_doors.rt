@@ -29,6 +29,10 @@ const ENFILE: i32 = 23;
 
 const EMFILE: i32 = 24;
 
+/// What accept(2) hands on of the network and of the next connection, and not of the door: EPERM (a firewall's), ENONET,
+/// EPROTO, ENOPROTOOPT, EOPNOTSUPP, ENETDOWN, ENETUNREACH, ECONNABORTED, ETIMEDOUT, EHOSTDOWN, EHOSTUNREACH.
+const OF_ONE_CALLER: [i32; 11] = [1, 64, 71, 92, 95, 100, 101, 103, 110, 112, 113];
+
 const PADS: Token = Token(0);
 
 const API: Token = Token(1);
@@ -136,16 +140,14 @@ fn is_full(error: &Error) -> bool {
 // The error is of the connection, and not of the door: the system hands on what befell it while it waited.
 fn is_broken(error: &Error) -> bool {
     is_gone(error)
-        || matches!(
-            error.kind(),
-            ErrorKind::NetworkDown | ErrorKind::NetworkUnreachable | ErrorKind::HostUnreachable
-        )
+        || error
+            .raw_os_error()
+            .is_some_and(|code| OF_ONE_CALLER.contains(&code))
 }
 
 /// Two listening sockets: at one come callers of pads, at the other callers of the API; or the way to a server's door.
 ///
 /// Taking a caller only takes the socket. Where both doors have one, they take turns.
-#[derive(Drop)]
 pub struct TcpDoors<R> {
     rt: R,
     alloc: Global,
@@ -155,6 +157,19 @@ pub struct TcpDoors<R> {
     server: Option<String>,
     given: u64,
     faults: u64,
+}
+
+impl<R: Drop> Drop for TcpDoors<R> {
+    fn drop(self) {
+        let TcpDoors {
+            rt: _,
+            alloc: _,
+            listening: _,
+            server: _,
+            given: _,
+            faults: _,
+        } = self;
+    }
 }
 
 impl<R: Net + RandomSource + Clock + Copy + Drop> TcpDoors<R> {

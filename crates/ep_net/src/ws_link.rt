@@ -35,12 +35,22 @@ enum Line<R> {
 ///
 /// A link that was taken at a door makes its handshake at the first receive. One that failed fails from then on; one
 /// for whose message there was no memory is closed, since what follows would be taken for that message.
-#[derive(Drop)]
 pub struct WsLink<R> {
     rt: R,
     alloc: Global,
     line: Line<R>,
     faults: u64,
+}
+
+impl<R: Drop> Drop for WsLink<R> {
+    fn drop(self) {
+        let WsLink {
+            rt: _,
+            alloc: _,
+            line: _,
+            faults: _,
+        } = self;
+    }
 }
 
 impl<R: Net + RandomSource + Clock + Copy + Drop> WsLink<R> {

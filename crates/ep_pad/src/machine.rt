@@ -12,13 +12,24 @@ use std::marker::Model;
 ///
 /// While it is open its file holds the pad's records, and the pad in memory is what they tell, with the sessions of this
 /// opening. A closed one stands for the records of its file alone, among them the one at which its store failed or not.
-#[derive(Drop)]
 pub struct PadMachine<D: Disk> {
     pub(crate) alloc: Global,
     pub(crate) limits: Limits,
     pub(crate) file: PadFile<D>,
     pub(crate) pad: Pad,
     pub(crate) is_open: bool,
+}
+
+impl<D: Disk + Drop> Drop for PadMachine<D> {
+    fn drop(self) {
+        let PadMachine {
+            alloc: _,
+            limits: _,
+            file: _,
+            pad: _,
+            is_open: _,
+        } = self;
+    }
 }
 
 impl<D: Disk> Model for PadMachine<D> {
@@ -38,6 +49,13 @@ impl<D: Disk> PadMachine<D> {
     pub fn into_disk(self) -> D
         ensures { result ≡ self.disk }
     {
-        self.file.into_disk()
+        let PadMachine {
+            alloc: _,
+            limits: _,
+            file,
+            pad: _,
+            is_open: _,
+        } = self;
+        file.into_disk()
     }
 }

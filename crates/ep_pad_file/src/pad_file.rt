@@ -27,11 +27,19 @@ use std::alloc::Global;
 /// The records of a pad in the file of a disk.
 ///
 /// After `PadBad::Store` it is closed, until it is opened again.
-#[derive(Drop)]
 pub struct PadFile<D: Disk> {
     journal: Journal<D>,
     // memory for the next record's bytes
     spare: Option<Vec<u8>>,
+}
+
+impl<D: Disk + Drop> Drop for PadFile<D> {
+    fn drop(self) {
+        let PadFile {
+            journal: _,
+            spare: _,
+        } = self;
+    }
 }
 
 impl<D: Disk> PadFile<D> {
@@ -269,7 +277,8 @@ impl<D: Disk> PadFile<D> {
     pub fn into_disk(self) -> D
         ensures { result ≡ disk_of self }
     {
-        self.journal.into_disk()
+        let PadFile { journal, spare: _ } = self;
+        journal.into_disk()
     }
 }
 

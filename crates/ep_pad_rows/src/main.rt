@@ -11,16 +11,12 @@
 //!   answer has the refusal, and of the pad then the number of the opening, the head, and what the other session is told.
 //! - `stop CALLS IMAGE LENGTH`: there the insert is stopped so, and the answer has what it was answered, the number of the
 //!   opening, the head, and the count of the records.
-//!
-//! The tests of `ep_pad` stand here, since they take a disk in memory.
 #![tactic(auto)]
 
 mod appended;
 mod hindered;
 mod images;
 mod opened;
-#[cfg(test)]
-mod pad_tests;
 
 use crate::appended::{appended, full};
 use crate::hindered::{faulted, stopped};

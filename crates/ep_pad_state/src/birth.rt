@@ -20,13 +20,22 @@ use ep_units::{NoMemory, Session, Units};
 use std::alloc::Global;
 
 /// The revisions of a birth, of which there is at least one, and its edits that became nothing.
-#[derive(Drop)]
 pub struct Birth {
     pub(crate) revs: Revs,
     pub(crate) nops: Nops,
     guesses: Guesses,
     ghost some: { 1 ≤ length revs.revs },
     ghost ends: { lacks_newline (last_doc revs.revs) ≡ false },
+}
+
+impl Drop for Birth {
+    fn drop(self) {
+        let Birth {
+            revs: _,
+            nops: _,
+            guesses: _,
+        } = self;
+    }
 }
 
 /// Revisions with their documents, behind others. It takes no memory.

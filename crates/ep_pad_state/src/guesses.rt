@@ -9,9 +9,14 @@ const MOST: usize = 64;
 /// For the sessions that wrote last, in which revision each did. A guess may be wrong, and nothing may rest on it.
 ///
 /// They stand apart from the birth, which is moved often.
-#[derive(Drop)]
 pub struct Guesses {
     revs: Vec<u64>,
+}
+
+impl Drop for Guesses {
+    fn drop(self) {
+        let Guesses { revs: _ } = self;
+    }
 }
 
 /// The place of a session.

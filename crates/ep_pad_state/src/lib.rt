@@ -23,6 +23,3 @@ pub use entering::LoggedIn;
 pub use ep_history::PadBad;
 pub use ep_step::Committed;
 pub use pad::{Last, Pad};
-
-#[cfg(test)]
-mod tests;

@@ -20,13 +20,24 @@ pub enum Last {
 
 /// An open pad: how many times it was made, its last birth, whether anybody may enter it, and the sessions of this
 /// opening.
-#[derive(Drop)]
 pub struct Pad {
     pub(crate) limits: Limits,
     pub(crate) seats: Seats,
     pub(crate) births: u64,
     pub(crate) last: Last,
     pub(crate) public: bool,
+}
+
+impl Drop for Pad {
+    fn drop(self) {
+        let Pad {
+            limits: _,
+            seats: _,
+            births: _,
+            last: _,
+            public: _,
+        } = self;
+    }
 }
 
 impl Last {

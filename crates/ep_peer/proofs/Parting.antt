@@ -5,7 +5,7 @@ use Rattle.std.specs.Result.{IsErrAnd}
 use Rattle.ep_link.specs.Traffic.{Adds, came}
 use Rattle.ep_link.specs.declared.passed.Passed.{Passed}
 use Rattle.ep_link.specs.declared.passed.Passed.TheVariants.{Sent}
-use Rattle.ep_message.specs.declared.client.ClientMsg.{ClientMsg}
+use Rattle.ep_wire_words.specs.declared.client.ClientMsg.{ClientMsg}
 use Rattle.ep_peer.specs.Parts.{Comes, Done, IsQuiet, Performs, SendsAs, bad_of_say}
 use Rattle.ep_peer.specs.Writer.{Did, Said, Unsaid, Gave, Understood, Lined, Unlined, Over, Stand, Outcome, Goes, Ends, Runs, Does, Sends, stops, text_of_msg, traffic_of, lines_of}
 use Rattle.ep_peer.specs.declared.bad.PeerBad.{PeerBad}

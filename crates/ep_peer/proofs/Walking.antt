@@ -4,8 +4,8 @@ use Rattle.std.specs.Prelude.{Result, Ok}
 use Rattle.ep_units.specs.Text.{Text}
 use Rattle.ep_cs.specs.Change.{Change}
 use Rattle.ep_history.specs.Kept.{KeptClient}
-use Rattle.ep_message.specs.declared.client.ClientMsg.{ClientMsg}
-use Rattle.ep_message.specs.declared.client.ClientMsg.TheVariants as msgs
+use Rattle.ep_wire_words.specs.declared.client.ClientMsg.{ClientMsg}
+use Rattle.ep_wire_words.specs.declared.client.ClientMsg.TheVariants as msgs
 use Rattle.ep_peer.specs.Cuts.{Cut}
 use Rattle.ep_peer.specs.Output.{IsSentOf, client_after, client_by, commit_by, commits_heard, edits_sent, output, output_by, said_by, said_of, sent_by}
 use Rattle.ep_peer.specs.Writer.{Did, Said, Unsaid, Gave, Understood, Lined, Unlined, Over, Stand, Opening, Listening, Having, Reading, Sending, Outcome, Goes, Ends, Does, IsOver, Runs, written}

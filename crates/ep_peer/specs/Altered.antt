@@ -13,8 +13,8 @@ use Rattle.ep_script.specs.WriteLine.{write_line_of}
 use Rattle.ep_script.specs.declared.line.LineBad.{LineBad}
 use Rattle.ep_script.specs.declared.write_line.WriteLine.{WriteLine}
 use Rattle.ep_script.specs.declared.write_line.WriteLine.TheVariants as line
-use Rattle.ep_message.specs.declared.client.ClientMsg.{ClientMsg}
-use Rattle.ep_message.specs.declared.client.ClientMsg.TheVariants as msgs
+use Rattle.ep_wire_words.specs.declared.client.ClientMsg.{ClientMsg}
+use Rattle.ep_wire_words.specs.declared.client.ClientMsg.TheVariants as msgs
 use Rattle.ep_peer.specs.Cuts.{Cut, Line, Long}
 use Rattle.ep_peer.specs.Output.{client_after, client_by}
 use Rattle.ep_peer.specs.Writer.{Did, Said, Unsaid, Lined, Unlined, Over}

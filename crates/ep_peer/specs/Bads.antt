@@ -4,8 +4,8 @@ use Rattle.ep_client.specs.declared.bad.ClientBad.{ClientBad}
 use Rattle.ep_client.specs.declared.bad.ClientBad.TheVariants as client
 use Rattle.ep_invert.specs.declared.bad.SpliceBad.{SpliceBad}
 use Rattle.ep_invert.specs.declared.bad.SpliceBad.TheVariants as splice
-use Rattle.ep_message.specs.declared.bad.WireBad.{WireBad}
-use Rattle.ep_message.specs.declared.bad.WireBad.TheVariants as wire
+use Rattle.ep_wire_words.specs.declared.bad.WireBad.{WireBad}
+use Rattle.ep_wire_words.specs.declared.bad.WireBad.TheVariants as wire
 use Rattle.ep_script.specs.declared.line.LineBad.{LineBad}
 use Rattle.ep_script.specs.declared.line.LineBad.TheVariants as line
 use Rattle.ep_peer.specs.declared.bad.PeerBad.{PeerBad}

@@ -6,9 +6,9 @@ use Rattle.ep_link.specs.declared.passed.LinkGot.{LinkGot}
 use Rattle.ep_link.specs.declared.passed.LinkGot.TheVariants as got
 use Rattle.ep_link.specs.declared.passed.Passed.{Passed}
 use Rattle.ep_link.specs.declared.passed.Passed.TheVariants.{Sent}
-use Rattle.ep_message.specs.declared.client.ClientMsg.{ClientMsg}
-use Rattle.ep_message.specs.Server.{ReadsServer}
-use Rattle.ep_message.specs.declared.bad.WireBad.{WireBad}
+use Rattle.ep_wire_words.specs.declared.client.ClientMsg.{ClientMsg}
+use Rattle.ep_wire_words.specs.Server.{ReadsServer}
+use Rattle.ep_wire_words.specs.declared.bad.WireBad.{WireBad}
 use Rattle.ep_peer.specs.Bads.{bad_of_wire}
 use Rattle.ep_peer.specs.Writer.{Did, Lined, Unlined, Over, Awaited, Listening, Outcome, Goes, Runs, stops, heard, understood, most_bytes, text_of_msg, traffic_of}
 use Rattle.ep_peer.specs.declared.bad.PeerBad.{PeerBad}

@@ -18,13 +18,13 @@ use Rattle.ep_script.specs.WriteLine.{write_line_of}
 use Rattle.ep_script.specs.declared.line.LineBad.{LineBad}
 use Rattle.ep_script.specs.declared.write_line.WriteLine.{WriteLine}
 use Rattle.ep_script.specs.declared.write_line.WriteLine.TheVariants as line
-use Rattle.ep_message.specs.ClientJson.{client_json}
-use Rattle.ep_message.specs.Server.{ReadsServer}
-use Rattle.ep_message.specs.declared.bad.WireBad.{WireBad}
-use Rattle.ep_message.specs.declared.client.ClientMsg.{ClientMsg}
-use Rattle.ep_message.specs.declared.client.ClientMsg.TheVariants as msgs
-use Rattle.ep_message.specs.declared.server.ServerMsg.{ServerMsg}
-use Rattle.ep_message.specs.declared.server.ServerMsg.TheVariants as msg
+use Rattle.ep_wire_words.specs.ClientJson.{client_json}
+use Rattle.ep_wire_words.specs.Server.{ReadsServer}
+use Rattle.ep_wire_words.specs.declared.bad.WireBad.{WireBad}
+use Rattle.ep_wire_words.specs.declared.client.ClientMsg.{ClientMsg}
+use Rattle.ep_wire_words.specs.declared.client.ClientMsg.TheVariants as msgs
+use Rattle.ep_wire_words.specs.declared.server.ServerMsg.{ServerMsg}
+use Rattle.ep_wire_words.specs.declared.server.ServerMsg.TheVariants as msg
 use Rattle.ep_link.specs.Traffic.{came}
 use Rattle.ep_link.specs.declared.passed.LinkGot.{LinkGot}
 use Rattle.ep_link.specs.declared.passed.LinkGot.TheVariants as got

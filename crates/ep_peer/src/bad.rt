@@ -5,10 +5,10 @@ ghost use Rattle.ep_peer.specs.Bads.{bad_of_line, bad_of_splice};
 
 use ep_client::ClientBad;
 use ep_invert::SpliceBad;
-use ep_message::WireBad;
 use ep_outside::Text;
 use ep_script::LineBad;
 use ep_units::NoMemory;
+use ep_wire_words::WireBad;
 
 /// Why a line isn't written.
 #[derive(Clone, Copy, Debug, PartialEq, Eq)]

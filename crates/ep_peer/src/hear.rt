@@ -7,9 +7,9 @@ ghost use Rattle.ep_peer.specs.Parts.{Comes, Done, IsLinkCaused, ReadAs, Receive
 use crate::bad::PeerBad;
 use ep_client::{Client, Heard, Told};
 use ep_link::{Link, LinkGot};
-use ep_message::ServerMsg;
 use ep_outside::Text;
 use ep_wire::read_server;
+use ep_wire_words::ServerMsg;
 use std::alloc::Global;
 use std::sync::Wait;
 

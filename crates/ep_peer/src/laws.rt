@@ -7,7 +7,7 @@ ghost use Rattle.ep_cs.specs.Doc.{Doc};
 ghost use Rattle.ep_cs.specs.Fits.{is_identity};
 ghost use Rattle.ep_event.specs.declared.event.Local.{Local};
 ghost use Rattle.ep_local.specs.Local.{local_edit};
-ghost use Rattle.ep_message.specs.declared.client.ClientMsg.TheVariants as msgs;
+ghost use Rattle.ep_wire_words.specs.declared.client.ClientMsg.TheVariants as msgs;
 ghost use Rattle.ep_peer.specs.Altered.{IsAsked, IsIdleAfter, IsNextOf, alterations, altered_by, says_nothing};
 ghost use Rattle.ep_peer.specs.Output.{AreCommitted, IsDone, IsSentOf, client_after, output, said_of};
 ghost use Rattle.ep_peer.specs.Writer.{Did, Ends, Goes, Lined, Opening, Outcome, Runs, Said, ready};

@@ -3,13 +3,13 @@
 ghost use Rattle.std.specs.Prelude.{◌≡◌, ◌≤◌, IfOk};
 ghost use Rattle.ep_peer.specs.Writer.{Listening, Opening, First, Goes, ready, text_of_msg};
 ghost use Rattle.ep_peer.specs.Parts.{Done, IsLinkCaused, IsUnsent, SendsAs};
-ghost use Rattle.ep_message.specs.declared.client.ClientMsg.{ClientMsg as AnyMsg};
+ghost use Rattle.ep_wire_words.specs.declared.client.ClientMsg.{ClientMsg as AnyMsg};
 
 use crate::bad::PeerBad;
 use ep_link::{Link, LinkBad};
-use ep_message::{ClientMsg, Listed};
 use ep_units::{NoMemory, Units};
 use ep_wire::write_client;
+use ep_wire_words::{ClientMsg, Listed};
 use std::alloc::Global;
 use std::sync::Wait;
 

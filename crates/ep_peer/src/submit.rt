@@ -3,7 +3,7 @@
 ghost use Rattle.std.specs.Prelude.{◌≡◌, ◌≤◌, ℕ, IfOk, IfSome, OnOk};
 ghost use Rattle.ep_history.specs.Kept.{kept_submission};
 ghost use Rattle.ep_local.specs.Local.{local_bad};
-ghost use Rattle.ep_message.specs.declared.client.ClientMsg.TheVariants as msgs;
+ghost use Rattle.ep_wire_words.specs.declared.client.ClientMsg.TheVariants as msgs;
 ghost use Rattle.ep_script.specs.Seen.{EditTexts};
 ghost use Rattle.ep_script.specs.WriteLine.{write_line_of};
 ghost use Rattle.ep_peer.specs.Cuts.{cut_of};
@@ -17,8 +17,8 @@ use ep_client::{Client, Submission};
 use ep_event::Local;
 use ep_link::Link;
 use ep_local::edit_view;
-use ep_message::ClientMsg;
 use ep_script::{ScriptLine, WriteLine, read_write_line};
+use ep_wire_words::ClientMsg;
 use std::alloc::Global;
 use std::sync::Wait;
 

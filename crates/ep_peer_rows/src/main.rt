@@ -6,18 +6,12 @@
 //! - `random SEED COUNT`: it writes so many lines that the seed gives. The reply has how many of them alter something; what
 //!   the writer ends with, and what another caller reads of the pad then, beside the text that the lines make of an empty
 //!   one; and what the session came to.
-//!
-//! The tests of `ep_peer` and `ep_written` stand here, since they take a source and a sink in memory.
 #![tactic(auto)]
 
-#[cfg(test)]
-mod peer_tests;
 mod random;
 mod side;
 mod talk;
 mod told;
-#[cfg(test)]
-mod written_tests;
 
 use crate::random::drawn;
 use crate::talk::{Both, talk};

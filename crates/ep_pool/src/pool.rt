@@ -17,7 +17,6 @@ use std::marker::Model;
 const MOST_ATTRS: u32 = u32::MAX;
 
 /// Distinct attributes, numbered from 0.
-#[derive(Drop)]
 pub struct Pool {
     attrs: Vec<Attr>,
     numbers: Tree,
@@ -29,6 +28,16 @@ pub struct Pool {
     ghost rising: { is_rising (pairs_of attrs.items) numbers ≡ true },
     ghost whole: { AreWhole (length attrs.items) numbers } by { Prim.hlevel props },
     ghost room: { vec_len at_hand + vec_len attrs ≤ vec_capacity attrs },
+}
+
+impl Drop for Pool {
+    fn drop(self) {
+        let Pool {
+            attrs: _,
+            numbers: _,
+            at_hand: _,
+        } = self;
+    }
 }
 
 impl Model for Pool {
@@ -133,40 +142,5 @@ impl Pool {
         ensures { result ≡ length self.now.pairs }
     {
         self.attrs.len() as u32
-    }
-}
-
-#[cfg(test)]
-mod tests {
-    use super::*;
-    use ep_units::Units;
-    use std::test::Fail;
-
-    fn attr(alloc: Global, key: &str, value: &str) -> Result<Attr, NoMemory> {
-        Ok(Attr {
-            key: Units::from_str(alloc, key)?,
-            value: Units::from_str(alloc, value)?,
-        })
-    }
-
-    #[test]
-    fn numbers(rt: HostRuntime) -> Result<(), Fail> {
-        let alloc = rt.alloc();
-        let mut pool = Pool::new(alloc);
-        assert!(rt; pool.get(0).is_none());
-        pool.reserve(3)?;
-        assert_eq!(rt; pool.put(attr(alloc, "bold", "true")?), 0);
-        assert_eq!(rt; pool.put(attr(alloc, "bold", "true")?), 0);
-        assert_eq!(rt; pool.put(attr(alloc, "author", "a.x")?), 1);
-        assert_eq!(rt; pool.find(&attr(alloc, "author", "a.x")?), Some(1));
-        assert_eq!(rt; pool.find(&attr(alloc, "author", "true")?), None);
-        assert_eq!(rt; pool.len(), 2);
-        assert!(rt; pool.can_number_more());
-        assert!(rt; pool.get(2).is_none());
-        assert!(rt;
-            pool.get(1)
-                .is_some_and(|a| a.value.as_slice() == [97, 46, 120].as_slice())
-        );
-        Ok(())
     }
 }

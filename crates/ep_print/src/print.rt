@@ -277,6 +277,3 @@ pub fn print_shown(alloc: Global, shown: &Shown) -> Result<String, NoMemory>
         Shown::ViewMarks { name, doc } => view_marks(alloc, name, doc),
     }
 }
-
-#[cfg(test)]
-mod tests;

@@ -14,6 +14,3 @@ pub use ep_history::Record;
 pub use laws::no_bytes_are_two;
 pub use reading::decode;
 pub use writing::{encode, encode_behind};
-
-#[cfg(test)]
-mod tests;

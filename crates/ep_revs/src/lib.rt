@@ -17,6 +17,3 @@ pub use ep_history::Rev;
 pub use laws::documents_of_a_birth;
 pub use revs::Revs;
 pub use steps::Steps;
-
-#[cfg(test)]
-mod tests;

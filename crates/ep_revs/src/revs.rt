@@ -43,13 +43,24 @@ pub(crate) struct Near {
 ///
 /// `frames` has the document of each frame, `past` the head's, where the head is past the last frame, and `near` a few of
 /// those before it, the earliest first. There is room for `room` more revisions, frames among them.
-#[derive(Drop)]
 pub struct Revs {
     revs: Vec<Rev>,
     frames: Vec<Doc>,
     near: Vec<Near>,
     past: Option<Doc>,
     room: usize,
+}
+
+impl Drop for Revs {
+    fn drop(self) {
+        let Revs {
+            revs: _,
+            frames: _,
+            near: _,
+            past: _,
+            room: _,
+        } = self;
+    }
 }
 
 impl Model for Revs {

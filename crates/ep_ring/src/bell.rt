@@ -5,10 +5,20 @@ use ep_units::NoMemory;
 use std::alloc::Global;
 use std::sync::{Mutex, Wait};
 
+/// Who rings and has no ear on the bell.
+pub const NOBODY: u64 = 0;
+
+/// An ear, and the number by which it is taken down.
+#[derive(Drop)]
+struct Hung<E: Ear> {
+    number: u64,
+    ear: E,
+}
+
 /// The ears of those that wait for one pad.
 #[derive(Drop)]
 pub struct Bell<E: Ear> {
-    ears: Mutex<Vec<E>>,
+    ears: Mutex<Vec<Hung<E>>>,
 }
 
 impl<E: Ear> Bell<E> {
@@ -19,16 +29,23 @@ impl<E: Ear> Bell<E> {
         }
     }
 
-    /// One more ear hangs on it.
-    pub fn hang<R: Wait>(&self, rt: &R, ear: E) -> Result<(), NoMemory> {
+    /// One more ear hangs on it, under a number.
+    pub fn hang<R: Wait>(&self, rt: &R, number: u64, ear: E) -> Result<(), NoMemory> {
         let mut ears = self.ears.lock(rt);
-        ears.push(ear)?;
+        ears.push(Hung { number, ear })?;
         Ok(())
     }
 
-    /// Wakes all that wait, and forgets those that listen no more.
-    pub fn ring<R: Wait>(&self, rt: &R) {
+    /// The ear of the number hangs there no more. The answer is whether none does.
+    pub fn take_down<R: Wait>(&self, rt: &R, number: u64) -> bool {
         let mut ears = self.ears.lock(rt);
-        ears.retain(|ear| ear.ring());
+        ears.retain(|hung| hung.number != number);
+        ears.is_empty()
+    }
+
+    /// Wakes all that wait but who rings, and forgets those that listen no more.
+    pub fn ring<R: Wait>(&self, rt: &R, ringer: u64) {
+        let mut ears = self.ears.lock(rt);
+        ears.retain(|hung| hung.number == ringer || hung.ear.ring());
     }
 }

@@ -2,7 +2,7 @@
 
 ghost use Rattle.std.specs.Prelude.{◌≡◌};
 
-use crate::bell::Bell;
+use crate::bell::NOBODY;
 use crate::bells::Bells;
 use ep_apply::Doc;
 use ep_cs::Change;
@@ -13,19 +13,37 @@ use ep_units::{Grant, NoMemory, PadId, Session, Units};
 use std::alloc::Global;
 use std::sync::{Arc, Mutex, Wait};
 
-/// A pass of the port inside, and the bell of its pad.
+/// A pass of the port inside, and the name of its pad.
 #[derive(Drop)]
-pub struct RingPass<A: Drop, E: Ear> {
+pub struct RingPass<A: Drop> {
     pub pass: A,
-    bell: Arc<Bell<E>>,
+    pad: Units,
+}
+
+/// The pad for which a session's ear waits, and its number there.
+#[derive(Drop)]
+struct Listening {
+    pad: Units,
+    number: u64,
 }
 
 /// The port of one session: the pads that all share, all bells, and the ear of its link until that hangs on a bell.
-#[derive(Drop)]
 pub struct Ringing<P: Drop, E: Ear> {
     pub pads: Arc<P>,
     bells: Arc<Bells<E>>,
     ear: Mutex<Option<E>>,
+    listening: Mutex<Option<Listening>>,
+}
+
+impl<P: Drop, E: Ear + Drop> Drop for Ringing<P, E> {
+    fn drop(self) {
+        let Ringing {
+            pads: _,
+            bells: _,
+            ear: _,
+            listening: _,
+        } = self;
+    }
 }
 
 impl<P: Drop, E: Ear> Ringing<P, E> {
@@ -37,14 +55,41 @@ impl<P: Drop, E: Ear> Ringing<P, E> {
             pads,
             bells,
             ear: Mutex::new(ear),
+            listening: Mutex::new(None),
         }
     }
 
-    // The ear hangs on the bell from now on. Where there is no memory for it the session is woken by nobody.
-    fn listen<R: Wait>(&self, rt: &R, bell: &Bell<E>) {
+    fn hang<R: Wait>(&self, rt: &R, pad: &Units, ear: E) -> Result<Listening, NoMemory> {
+        let pad = pad.copy(self.bells.alloc())?;
+        let number = self.bells.hang(rt, &pad, ear)?;
+        Ok(Listening { pad, number })
+    }
+
+    // The ear waits for the pad from now on. Where there is no memory for it the session is woken by nobody.
+    fn listen<R: Wait>(&self, rt: &R, pad: &Units) {
         let ear = self.ear.lock(rt).take();
         if let Some(ear) = ear {
-            let _hangs = bell.hang(rt, ear);
+            if let Ok(hung) = self.hang(rt, pad, ear) {
+                let mut listening = self.listening.lock(rt);
+                *listening = Some(hung);
+            }
+        }
+    }
+
+    // Wakes the others that wait for the pad.
+    fn ring<R: Wait>(&self, rt: &R, pad: &Units) {
+        let own = match &*self.listening.lock(rt) {
+            Some(hung) => hung.number,
+            None => NOBODY,
+        };
+        self.bells.ring(rt, pad, own);
+    }
+
+    /// The session is over: its ear goes with it.
+    pub fn end<R: Wait>(&self, rt: &R) {
+        let hung = self.listening.lock(rt).take();
+        if let Some(hung) = hung {
+            self.bells.take_down(rt, &hung.pad, hung.number);
         }
     }
 }
@@ -56,7 +101,7 @@ impl<P: PadPort + Drop, E: Ear> PadPort for Ringing<P, E> {
 
     type Hall = P::Hall;
 
-    type Pass = RingPass<P::Pass, E>;
+    type Pass = RingPass<P::Pass>;
 
     ghost limits_of = { λ port. P.limits_of (arc_value port.pads) };
 
@@ -87,30 +132,30 @@ impl<P: PadPort + Drop, E: Ear> PadPort for Ringing<P, E> {
         rt: &R,
         hall: &mut P::Hall,
         pad: &PadId,
-    ) -> Result<RingPass<P::Pass, E>, PassBad<PadBad>> {
-        let Ok(bell) = self.bells.of(rt, pad) else {
+    ) -> Result<RingPass<P::Pass>, PassBad<PadBad>> {
+        let Ok(name) = Units::from_slice(self.bells.alloc(), pad.as_slice()) else {
             return Err(PassBad::NoMemory);
         };
         match self.pads.pass(rt, hall, pad) {
-            Ok(pass) => Ok(RingPass { pass, bell }),
+            Ok(pass) => Ok(RingPass { pass, pad: name }),
             Err(bad) => Err(bad),
         }
     }
 
-    fn meet(&self, one: &mut RingPass<P::Pass, E>, other: &mut RingPass<P::Pass, E>) {
+    fn meet(&self, one: &mut RingPass<P::Pass>, other: &mut RingPass<P::Pass>) {
         self.pads.meet(&mut one.pass, &mut other.pass);
     }
 
     fn login<R: Wait>(
         &self,
         rt: &R,
-        pass: &mut RingPass<P::Pass, E>,
+        pass: &mut RingPass<P::Pass>,
         grant: &Grant,
         now: u64,
     ) -> Result<Welcome, PadBad> {
         let reply = self.pads.login(rt, &mut pass.pass, grant, now);
         if reply.is_ok() {
-            self.listen(rt, &pass.bell);
+            self.listen(rt, &pass.pad);
         }
         reply
     }
@@ -118,7 +163,7 @@ impl<P: PadPort + Drop, E: Ear> PadPort for Ringing<P, E> {
     fn resume<R: Wait>(
         &self,
         rt: &R,
-        pass: &mut RingPass<P::Pass, E>,
+        pass: &mut RingPass<P::Pass>,
         grant: &Grant,
         rev: u64,
         birth: Option<u64>,
@@ -129,7 +174,7 @@ impl<P: PadPort + Drop, E: Ear> PadPort for Ringing<P, E> {
             .pads
             .resume(rt, &mut pass.pass, grant, rev, birth, author, now);
         if reply.is_ok() {
-            self.listen(rt, &pass.bell);
+            self.listen(rt, &pass.pad);
         }
         reply
     }
@@ -137,7 +182,7 @@ impl<P: PadPort + Drop, E: Ear> PadPort for Ringing<P, E> {
     fn accept<R: Wait>(
         &self,
         rt: &R,
-        pass: &mut RingPass<P::Pass, E>,
+        pass: &mut RingPass<P::Pass>,
         session: Session,
         base: u64,
         change: Change,
@@ -147,7 +192,7 @@ impl<P: PadPort + Drop, E: Ear> PadPort for Ringing<P, E> {
             .pads
             .accept(rt, &mut pass.pass, session, base, change, now);
         if reply.is_ok() {
-            pass.bell.ring(rt);
+            self.ring(rt, &pass.pad);
         }
         reply
     }
@@ -155,7 +200,7 @@ impl<P: PadPort + Drop, E: Ear> PadPort for Ringing<P, E> {
     fn fetch<R: Wait>(
         &self,
         rt: &R,
-        pass: &mut RingPass<P::Pass, E>,
+        pass: &mut RingPass<P::Pass>,
         session: Session,
         from: u64,
         told: u64,
@@ -166,7 +211,7 @@ impl<P: PadPort + Drop, E: Ear> PadPort for Ringing<P, E> {
     fn leave<R: Wait>(
         &self,
         rt: &R,
-        pass: &mut RingPass<P::Pass, E>,
+        pass: &mut RingPass<P::Pass>,
         session: Session,
     ) -> Result<(), PadBad> {
         self.pads.leave(rt, &mut pass.pass, session)
@@ -175,7 +220,7 @@ impl<P: PadPort + Drop, E: Ear> PadPort for Ringing<P, E> {
     fn create<R: Wait>(
         &self,
         rt: &R,
-        pass: &mut RingPass<P::Pass, E>,
+        pass: &mut RingPass<P::Pass>,
         text: &Units,
         now: u64,
     ) -> Result<u64, PadBad> {
@@ -185,13 +230,13 @@ impl<P: PadPort + Drop, E: Ear> PadPort for Ringing<P, E> {
     fn set_text<R: Wait>(
         &self,
         rt: &R,
-        pass: &mut RingPass<P::Pass, E>,
+        pass: &mut RingPass<P::Pass>,
         text: &Units,
         now: u64,
     ) -> Result<Committed, PadBad> {
         let reply = self.pads.set_text(rt, &mut pass.pass, text, now);
         if reply.is_ok() {
-            pass.bell.ring(rt);
+            self.ring(rt, &pass.pad);
         }
         reply
     }
@@ -199,12 +244,12 @@ impl<P: PadPort + Drop, E: Ear> PadPort for Ringing<P, E> {
     fn delete<R: Wait>(
         &self,
         rt: &R,
-        pass: &mut RingPass<P::Pass, E>,
+        pass: &mut RingPass<P::Pass>,
         now: u64,
     ) -> Result<(), PadBad> {
         let reply = self.pads.delete(rt, &mut pass.pass, now);
         if reply.is_ok() {
-            pass.bell.ring(rt);
+            self.ring(rt, &pass.pad);
         }
         reply
     }
@@ -212,7 +257,7 @@ impl<P: PadPort + Drop, E: Ear> PadPort for Ringing<P, E> {
     fn set_public<R: Wait>(
         &self,
         rt: &R,
-        pass: &mut RingPass<P::Pass, E>,
+        pass: &mut RingPass<P::Pass>,
         on: bool,
     ) -> Result<(), PadBad> {
         self.pads.set_public(rt, &mut pass.pass, on)
@@ -221,7 +266,7 @@ impl<P: PadPort + Drop, E: Ear> PadPort for Ringing<P, E> {
     fn text<R: Wait>(
         &self,
         rt: &R,
-        pass: &mut RingPass<P::Pass, E>,
+        pass: &mut RingPass<P::Pass>,
         rev: Option<u64>,
     ) -> Result<Doc, PadBad> {
         self.pads.text(rt, &mut pass.pass, rev)
@@ -230,7 +275,7 @@ impl<P: PadPort + Drop, E: Ear> PadPort for Ringing<P, E> {
     fn history<R: Wait>(
         &self,
         rt: &R,
-        pass: &mut RingPass<P::Pass, E>,
+        pass: &mut RingPass<P::Pass>,
         session: Session,
         start: u64,
         count: u64,
@@ -238,11 +283,7 @@ impl<P: PadPort + Drop, E: Ear> PadPort for Ringing<P, E> {
         self.pads.history(rt, &mut pass.pass, session, start, count)
     }
 
-    fn status<R: Wait>(
-        &self,
-        rt: &R,
-        pass: &mut RingPass<P::Pass, E>,
-    ) -> Result<PadStatus, PadBad> {
+    fn status<R: Wait>(&self, rt: &R, pass: &mut RingPass<P::Pass>) -> Result<PadStatus, PadBad> {
         self.pads.status(rt, &mut pass.pass)
     }
 }

@@ -32,14 +32,20 @@ pub fn bold_map(alloc: Global) -> Result<AttrMap, NoMemory> {
 }
 
 pub fn change(alloc: Global, text: &str, pool: &Pool) -> Result<Change> {
-    Ok(read(alloc, &Units::from_str(alloc, text)?, pool)?)
+    let text = Units::from_str(alloc, text)?;
+    Ok(read(alloc, &text, pool)?)
+}
+
+/// A text with these attributes, as a change of an empty document.
+fn insertion(alloc: Global, text: &str, attribs: &str, pool: &Pool) -> Result<Change> {
+    let text = Units::from_str(alloc, text)?;
+    let attribs = Units::from_str(alloc, attribs)?;
+    Ok(read_attribs(alloc, &text, &attribs, pool)?)
 }
 
 /// The document of a text with these attributes.
 pub fn document(alloc: Global, text: &str, attribs: &str, pool: &Pool) -> Result<Doc> {
-    let text = Units::from_str(alloc, text)?;
-    let attribs = Units::from_str(alloc, attribs)?;
-    let all = read_attribs(alloc, &text, &attribs, pool)?;
+    let all = insertion(alloc, text, attribs, pool)?;
     let empty = Doc::empty(alloc);
     fits(&empty, &all)?;
     Ok(apply(alloc, &empty, &all)?)
@@ -48,5 +54,6 @@ pub fn document(alloc: Global, text: &str, attribs: &str, pool: &Pool) -> Result
 /// A change as it is spelled with a pool that has its pairs.
 pub fn spelled(alloc: Global, change: &Change, pool: &Pool) -> Result<String> {
     ensure!(has_pairs(change, pool), "a pair has no number");
-    Ok(print(alloc, change, pool)?.to_text_lossy(alloc)?)
+    let text = print(alloc, change, pool)?;
+    Ok(text.to_text_lossy(alloc)?)
 }

@@ -14,6 +14,19 @@ fn inverse(alloc: Global, pool: &Pool, doc: &Doc, text: &str) -> Result<String> 
     spelled(alloc, &back, pool)
 }
 
+fn print_rows<R: Print + AllocGlobal>(
+    rt: &R,
+    pool: &Pool,
+    doc: &Doc,
+    changes: &[&str],
+) -> Result<()> {
+    for change in changes {
+        let answer = inverse(rt.alloc(), pool, doc, change)?;
+        println!(rt; "{change:?}: {answer:?}")?;
+    }
+    Ok(())
+}
+
 /// Changes of a document, each with what undoes it.
 fn print_inverses<R: Print + AllocGlobal>(
     rt: &R,
@@ -25,11 +38,7 @@ fn print_inverses<R: Print + AllocGlobal>(
     let pool = bold_pool(alloc)?;
     let doc = document(alloc, text, attribs, &pool)?;
     println!(rt; "inverses on {text:?} {attribs}")?;
-    for change in changes {
-        let answer = inverse(alloc, &pool, &doc, change)?;
-        println!(rt; "{change:?}: {answer:?}")?;
-    }
-    Ok(())
+    print_rows(rt, &pool, &doc, changes)
 }
 
 pub fn print<R: Print + AllocGlobal>(rt: &R) -> Result<()> {

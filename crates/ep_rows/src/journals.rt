@@ -1,10 +1,11 @@
 //! Journals on disks in memory.
 
-ghost use Rattle.std.specs.Prelude.{IfOk, OnOk};
+ghost use Rattle.std.specs.Prelude.{◌≤◌, length, IfOk, OnOk};
 ghost use Rattle.ep_journal.specs.Journal.{IsReady};
 
+use anyhow::Result;
 use ep_disk_mem::MemDisk;
-use ep_journal::{Framed, Journal, JournalBad};
+use ep_journal::{Framed, Journal, JournalBad, frame};
 use ep_outside::{Disk, Refused};
 use ep_units::NoMemory;
 use std::alloc::{AllocError, Global};
@@ -63,7 +64,8 @@ pub fn append(journal: &mut Journal<MemDisk>, framed: &Framed) -> Result<u64, Jo
 pub fn hex(alloc: Global, bytes: &[u8]) -> Result<String, AllocError> {
     let mut text = String::new(alloc);
     for byte in bytes {
-        text.push_str(format!(in alloc; "{byte:02x}")?.as_str())?;
+        let digits = format!(in alloc; "{byte:02x}")?;
+        text.push_str(digits.as_str())?;
     }
     Ok(text)
 }
@@ -84,4 +86,13 @@ pub fn index(alloc: Global, answer: Result<u64, JournalBad>) -> Result<String, A
         Ok(index) => format!(in alloc; "record {index}"),
         Err(bad) => refusal(alloc, bad),
     }
+}
+
+/// What the appending of a record answers.
+pub fn appended(alloc: Global, journal: &mut Journal<MemDisk>, record: &[u8]) -> Result<String>
+    requires ready { IsReady ⟦<MemDisk as Disk>⟧.told journal.old }
+    requires small { length record.now ≤ 67108864 }
+{
+    let framed = frame(alloc, record)?;
+    Ok(index(alloc, append(journal, &framed))?)
 }

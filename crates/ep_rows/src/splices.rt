@@ -4,7 +4,8 @@ use crate::changes::{bold_map, bold_pool, document, spelled};
 use anyhow::{Result, ensure};
 use ep_apply::Doc;
 use ep_attr::AttrMap;
-use ep_invert::{paint, splice};
+use ep_cs::Change;
+use ep_invert::{SpliceBad, paint, splice};
 use ep_pool::Pool;
 use ep_units::Units;
 use std::alloc::Global;
@@ -12,15 +13,34 @@ use std::alloc::Global;
 /// More units than a row has.
 const MANY: u32 = 1000;
 
+/// A change as it is spelled, or why it is refused.
+fn answer(alloc: Global, pool: &Pool, change: Result<Change, SpliceBad>) -> Result<String> {
+    match change {
+        Ok(change) => spelled(alloc, &change, pool),
+        Err(why) => Ok(why.to_string(alloc)?),
+    }
+}
+
 /// The splice by a text without attributes, or why it is refused.
 fn spliced(alloc: Global, pool: &Pool, doc: &Doc, at: u32, n: u32, text: &str) -> Result<String> {
     let text = Units::from_str(alloc, text)?;
     ensure!(doc.len() < MANY, "a long document");
     ensure!(text.len() < MANY as usize, "a long text");
-    match splice(alloc, doc, at, n, &text, &AttrMap::none(alloc)) {
-        Ok(change) => spelled(alloc, &change, pool),
-        Err(why) => Ok(why.to_string(alloc)?),
+    let none = AttrMap::none(alloc);
+    answer(alloc, pool, splice(alloc, doc, at, n, &text, &none))
+}
+
+fn print_spliced<R: Print + AllocGlobal>(
+    rt: &R,
+    pool: &Pool,
+    doc: &Doc,
+    rows: &[(u32, u32, &str)],
+) -> Result<()> {
+    for (at, n, insert) in rows {
+        let answer = spliced(rt.alloc(), pool, doc, *at, *n, insert)?;
+        println!(rt; "{at} {n} {insert:?}: {answer:?}")?;
     }
+    Ok(())
 }
 
 /// Splices of a document: the place, the units that give way, and the text.
@@ -34,19 +54,26 @@ fn print_splices<R: Print + AllocGlobal>(
     let pool = bold_pool(alloc)?;
     let doc = document(alloc, text, attribs, &pool)?;
     println!(rt; "splices of {text:?}")?;
-    for (at, n, insert) in rows {
-        let answer = spliced(alloc, &pool, &doc, *at, *n, insert)?;
-        println!(rt; "{at} {n} {insert:?}: {answer:?}")?;
-    }
-    Ok(())
+    print_spliced(rt, &pool, &doc, rows)
 }
 
 /// The painting in bold, or why it is refused.
 fn painted(alloc: Global, pool: &Pool, doc: &Doc, at: u32, n: u32) -> Result<String> {
-    match paint(alloc, doc, at, n, &bold_map(alloc)?) {
-        Ok(change) => spelled(alloc, &change, pool),
-        Err(why) => Ok(why.to_string(alloc)?),
+    let bold = bold_map(alloc)?;
+    answer(alloc, pool, paint(alloc, doc, at, n, &bold))
+}
+
+fn print_painted<R: Print + AllocGlobal>(
+    rt: &R,
+    pool: &Pool,
+    doc: &Doc,
+    rows: &[(u32, u32)],
+) -> Result<()> {
+    for (at, n) in rows {
+        let answer = painted(rt.alloc(), pool, doc, *at, *n)?;
+        println!(rt; "{at} {n}: {answer:?}")?;
     }
+    Ok(())
 }
 
 /// Paintings of a document in bold: the place, and the units that are painted.
@@ -60,11 +87,7 @@ fn print_bold<R: Print + AllocGlobal>(
     let pool = bold_pool(alloc)?;
     let doc = document(alloc, text, attribs, &pool)?;
     println!(rt; "paintings of {text:?}")?;
-    for (at, n) in rows {
-        let answer = painted(alloc, &pool, &doc, *at, *n)?;
-        println!(rt; "{at} {n}: {answer:?}")?;
-    }
-    Ok(())
+    print_painted(rt, &pool, &doc, rows)
 }
 
 pub fn print<R: Print + AllocGlobal>(rt: &R) -> Result<()> {

@@ -62,7 +62,7 @@ is-that (Named m) f x e = ap Some e
 is-nobody : (a : Actor) (f : Member → Shown) → ShowsClient (of-member f a) (Err world_bad.Unknown) → unless (is_client a) ≡ Some Unknown
 is-nobody Nobody f e = refl
 is-nobody (Guest c) f e = refl
-is-nobody (Named m) f e = absurd e
+is-nobody (Named m) f e = cc
 
 -- ---- what is seen of a line is enough
 
@@ -247,10 +247,10 @@ module _ {D : Type 0} (told : D → Option Contents) (failures : D → ℕ) (sto
     marks_untold k n world_bad.NoMemory e = tt
 
   -- a reading of the pad fails only where nothing is said
-  pub reading_fails : (k : ℕ) (s : Scene) (rs : List Record) (w : WorldState) (ks : Kepts) (said : Shown) (l : Line) (bad : WorldBad) (world : World D) (new : Stage D) → ShowsPad told failures stops_alone true rs w ks said (Err bad) world
+  pub reading_fails : (k : ℕ) (s : Scene) (rs : List Record) (before : ℕ) (w : WorldState) (ks : Kepts) (said : Shown) (l : Line) (bad : WorldBad) (world : World D) (new : Stage D) → ShowsPad told failures stops_alone true rs before w ks said (Err bad) world
       → Plays told failures stops_alone k s l (Err (stop_of_world bad)) new
-  reading_fails k s rs w ks said l world_bad.Unknown world new h = absurd h
-  reading_fails k s rs w ks said l world_bad.NoText world new h = tt
-  reading_fails k s rs w ks said l (world_bad.Full n) world new h = tt
-  reading_fails k s rs w ks said l (world_bad.Store n) world new h = tt
-  reading_fails k s rs w ks said l world_bad.NoMemory world new h = tt
+  reading_fails k s rs before w ks said l world_bad.Unknown world new h = absurd h.0
+  reading_fails k s rs before w ks said l world_bad.NoText world new h = tt
+  reading_fails k s rs before w ks said l (world_bad.Full n) world new h = tt
+  reading_fails k s rs before w ks said l (world_bad.Store n) world new h = tt
+  reading_fails k s rs before w ks said l world_bad.NoMemory world new h = tt

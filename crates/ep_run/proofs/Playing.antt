@@ -11,7 +11,7 @@ use Rattle.ep_world.specs.declared.world.World.{World}
 use Rattle.ep_run.specs.Ending.{EndsLines}
 use Rattle.ep_run.specs.Play.{Scene, Transcript, error_line}
 use Rattle.ep_run.specs.Played.{IsStage, PlaysLine}
-use Rattle.ep_run.specs.declared.play.PlayBad.{PlayBad}
+use Rattle.ep_run.specs.declared.script.PlayBad.{PlayBad}
 use Rattle.ep_run.specs.declared.reason.Reason.{Reason}
 use Rattle.ep_run.specs.declared.stage.Stage.{Stage}
 use Rattle.ep_run.specs.declared.stage.Stop.TheVariants.{At}

@@ -13,8 +13,8 @@ use Rattle.ep_run.specs.Play.{IsTranscript, opening, reads_of}
 use Rattle.ep_words.specs.Lines.{Line}
 use Rattle.ep_words.specs.Lines as line
 use Rattle.ep_run.specs.Run.{IsEnd, IsMade, IsMadeOf, Writes, WritesPart, statuses}
-use Rattle.ep_run.specs.declared.play.PlayBad.{PlayBad}
-use Rattle.ep_run.specs.declared.play.PlayBad.TheVariants.{SourceFault, SinkFault, Failed}
+use Rattle.ep_run.specs.declared.script.PlayBad.{PlayBad}
+use Rattle.ep_run.specs.declared.script.PlayBad.TheVariants.{SourceFault, SinkFault, Failed}
 use Rattle.ep_run.proofs.Transcripts.{some}
 
 -- ---- transcripts of scripts

@@ -16,7 +16,7 @@ use Rattle.ep_world.specs.declared.world.World.{World}
 use Rattle.ep_run.specs.Ending.{EndsLines, EndsScript}
 use Rattle.ep_run.specs.Play.{Scene, error_line, line_read, read_at, reads_at, reads_of}
 use Rattle.ep_run.specs.Played.{IsStage, PlaysLine, cut_read}
-use Rattle.ep_run.specs.declared.play.PlayBad.{PlayBad}
+use Rattle.ep_run.specs.declared.script.PlayBad.{PlayBad}
 use Rattle.ep_run.specs.declared.reason.Reason.{Reason}
 use Rattle.ep_run.specs.declared.reason.Reason.TheVariants.{Long}
 use Rattle.ep_run.specs.declared.stage.Stage.{Stage}

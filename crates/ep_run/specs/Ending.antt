@@ -6,8 +6,8 @@ use Rattle.ep_script.specs.Seen.{Seen}
 use Rattle.ep_world.specs.Standing.{IsRun, StandsFor}
 use Rattle.ep_world.specs.declared.world.World.{World}
 use Rattle.ep_run.specs.Play.{Scene, Transcript, reads_of}
-use Rattle.ep_run.specs.declared.play.PlayBad.{PlayBad}
-use Rattle.ep_run.specs.declared.play.PlayBad.TheVariants.{SourceFault, SinkFault, Failed}
+use Rattle.ep_run.specs.declared.script.PlayBad.{PlayBad}
+use Rattle.ep_run.specs.declared.script.PlayBad.TheVariants.{SourceFault, SinkFault, Failed}
 use Rattle.ep_run.specs.declared.reason.Reason.{Reason}
 
 -- a transcript of them was written, that has this status

@@ -1,6 +1,6 @@
 -- Working words of private contracts: which refusals end a script, at a line or before its end.
-use Rattle.ep_run.specs.declared.play.PlayBad.{PlayBad}
-use Rattle.ep_run.specs.declared.play.PlayBad.TheVariants as play
+use Rattle.ep_run.specs.declared.script.PlayBad.{PlayBad}
+use Rattle.ep_run.specs.declared.script.PlayBad.TheVariants as play
 use Rattle.ep_run.specs.declared.reason.Reason.TheVariants as reason
 use Rattle.ep_run.specs.declared.stage.Stop.{Stop}
 use Rattle.ep_run.specs.declared.stage.Stop.TheVariants.{At, Failed}

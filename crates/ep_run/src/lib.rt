@@ -7,15 +7,20 @@
 mod judge;
 mod laws;
 mod making;
-mod play;
 mod reason;
 mod say;
+mod script;
 mod serving;
 mod stage;
 mod status;
 mod top;
 mod writing;
 
+pub use judge::verify_to;
 pub use laws::one_transcript;
+pub use making::make_to;
+pub use script::{Played, play};
+pub use serving::serve_callers;
 pub use status::Status;
 pub use top::run;
+pub use writing::write_pad;

@@ -13,8 +13,8 @@ ghost use Rattle.ep_run.specs.Writing.{WritesPad};
 
 use crate::judge::verify_to;
 use crate::making::make_to;
-use crate::play::play;
 use crate::say::say;
+use crate::script::play;
 use crate::serving::serve_callers;
 use crate::status::Status;
 use crate::writing::write_pad;
@@ -110,6 +110,3 @@ where
         Err(WordsBad::NoMemory) => Status { code: 7 },
     }
 }
-
-#[cfg(test)]
-mod tests;

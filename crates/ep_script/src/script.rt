@@ -204,6 +204,3 @@ impl Script {
         line
     }
 }
-
-#[cfg(test)]
-mod tests;

@@ -20,11 +20,20 @@ use std::marker::Model;
 ///
 /// `places` has one place for each session, in order; `live` has the indices of those where somebody sits, in rising
 /// order, so that who enters is compared with the live ones alone.
-#[derive(Drop)]
 pub struct Seats {
     epoch: u64,
     places: Vec<Place>,
     live: Vec<usize>,
+}
+
+impl Drop for Seats {
+    fn drop(self) {
+        let Seats {
+            epoch: _,
+            places: _,
+            live: _,
+        } = self;
+    }
 }
 
 impl Model for Seats {
@@ -229,56 +238,4 @@ fn sits_at(places: &[Place], i: usize, author: &Units) -> bool
     ensures { result ≡ sits_at author.now (at places.now i) }
 {
     places.get(i).is_some_and(|place| place.is_of(author))
-}
-
-#[cfg(test)]
-mod tests {
-    use super::*;
-    use ep_outside::Limits;
-    use std::test::Fail;
-
-    const LIMITS: Limits = Limits {
-        live: 2,
-        logins: 4,
-        units: 0,
-        journal: 0,
-        pads: 0,
-    };
-
-    fn enter(seats: &mut Seats, author: Units, read_only: bool) -> Result<Session, PadBad> {
-        seats.check_full(&LIMITS, &author)?;
-        seats.reserve()?;
-        Ok(seats.enter(author, read_only))
-    }
-
-    #[test]
-    fn an_opening(rt: HostRuntime) -> Result<(), Fail> {
-        let mut seats = Seats::new(rt.alloc(), 3);
-        assert_eq!(rt; seats.epoch(), 3);
-        let ann = Units::from_str(rt.alloc(), "a.ann")?;
-        let first = enter(&mut seats, ann.copy(rt.alloc())?, false)?;
-        let second = enter(&mut seats, Units::from_str(rt.alloc(), "a.bob")?, true)?;
-        let cid = enter(&mut seats, Units::from_str(rt.alloc(), "a.cid")?, false);
-        assert_eq!(rt; cid, Err(PadBad::Full(2)));
-        let third = enter(&mut seats, ann.copy(rt.alloc())?, false)?;
-        assert_eq!(rt; third, Session { epoch: 3, count: 3 });
-        assert_eq!(rt;
-            seats.live(first).err(),
-            Some(PadBad::Dead(Why::Replaced(third)))
-        );
-        assert_eq!(rt; seats.writer(second).err(), Some(PadBad::ReadOnly));
-        assert!(rt; seats.writer(third).is_ok_and(|author| *author == ann));
-        assert_eq!(rt; seats.live_count(), 2);
-        let older = Session { epoch: 2, count: 3 };
-        assert_eq!(rt; seats.leave(older), Err(PadBad::Dead(Why::Reopened(3))));
-        seats.leave(third)?;
-        assert!(rt; !seats.has_live(&ann));
-        seats.end_all(1);
-        assert_eq!(rt;
-            seats.live(second).err(),
-            Some(PadBad::Dead(Why::Deleted(1)))
-        );
-        assert_eq!(rt; seats.live(third).err(), Some(PadBad::Dead(Why::Left)));
-        Ok(())
-    }
 }

@@ -12,7 +12,6 @@ use std::alloc::Global;
 use std::sync::Arc;
 
 /// Pads and a directory with the pads' bells, a clock, draws of which each caller gets its own, and the key of the API.
-#[derive(Drop)]
 pub struct Server<P: Drop, E: Ear, C: Drop, D: Drop> {
     alloc: Global,
     port: Arc<P>,
@@ -20,6 +19,19 @@ pub struct Server<P: Drop, E: Ear, C: Drop, D: Drop> {
     clock: Arc<C>,
     draws: D,
     key: Arc<String>,
+}
+
+impl<P: Drop, E: Ear + Drop, C: Drop, D: Drop> Drop for Server<P, E, C, D> {
+    fn drop(self) {
+        let Server {
+            alloc: _,
+            port: _,
+            bells: _,
+            clock: _,
+            draws: _,
+            key: _,
+        } = self;
+    }
 }
 
 impl<P: Drop, E: Ear, C: Drop, D: Drop> Server<P, E, C, D> {

@@ -41,6 +41,7 @@ impl<P: PadPort + DirPort + Drop, L: Link + Drop, C: Clock + Drop, D: Draws + Dr
             &mut draws,
         );
         drop(report);
+        pads.end(rt);
     }
 }
 

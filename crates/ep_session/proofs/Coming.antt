@@ -20,8 +20,8 @@ use Rattle.ep_pad.specs.declared.entries.PadEntry.{PadEntry}
 use Rattle.ep_pad.specs.declared.entries.PadReply.{PadReply}
 use Rattle.ep_pad.specs.declared.pass_bad.PassBad.{PassBad}
 use Rattle.ep_pad.specs.declared.pass_bad.PassBad.TheVariants as passbad
-use Rattle.ep_message.specs.declared.client.Resume.{Resume}
-use Rattle.ep_message.specs.declared.server.Word.{Word}
+use Rattle.ep_wire_words.specs.declared.client.Resume.{Resume}
+use Rattle.ep_wire_words.specs.declared.server.Word.{Word}
 use Rattle.ep_link.specs.Traffic.{Adds}
 use Rattle.ep_link.specs.declared.passed.Passed.{Passed}
 use Rattle.ep_session.specs.Passing.{Goes, IfBoth, own, own_of}

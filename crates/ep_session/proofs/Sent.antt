@@ -18,12 +18,12 @@ use Rattle.ep_pad_state.specs.declared.answers.Welcome.{Welcome}
 use Rattle.ep_pad.specs.Halls.{Answer}
 use Rattle.ep_pad.specs.declared.entries.PadEntry.TheVariants as entry
 use Rattle.ep_pad.specs.declared.entries.PadReply.TheVariants as reply
-use Rattle.ep_message.specs.declared.bad.WireBad.{WireBad}
-use Rattle.ep_message.specs.declared.client.ClientMsg.{ClientMsg}
-use Rattle.ep_message.specs.declared.client.ClientMsg.TheVariants as msgs
-use Rattle.ep_message.specs.declared.client.Resume.{Resume}
-use Rattle.ep_message.specs.declared.server.ServerMsg.{ServerMsg}
-use Rattle.ep_message.specs.declared.server.ServerMsg.TheVariants as msg
+use Rattle.ep_wire_words.specs.declared.bad.WireBad.{WireBad}
+use Rattle.ep_wire_words.specs.declared.client.ClientMsg.{ClientMsg}
+use Rattle.ep_wire_words.specs.declared.client.ClientMsg.TheVariants as msgs
+use Rattle.ep_wire_words.specs.declared.client.Resume.{Resume}
+use Rattle.ep_wire_words.specs.declared.server.ServerMsg.{ServerMsg}
+use Rattle.ep_wire_words.specs.declared.server.ServerMsg.TheVariants as msg
 use Rattle.ep_link.specs.declared.passed.LinkGot.{LinkGot}
 use Rattle.ep_link.specs.declared.passed.LinkGot.TheVariants as got
 use Rattle.ep_session.specs.Output.{nop_tellings, nops_told, tellings, told_all, output, said_by, said_of, plain}

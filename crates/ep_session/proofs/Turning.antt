@@ -20,12 +20,12 @@ use Rattle.ep_pad.specs.declared.entries.PadEntry.{PadEntry}
 use Rattle.ep_pad.specs.declared.entries.PadEntry.TheVariants as entry
 use Rattle.ep_pad.specs.declared.entries.PadReply.{PadReply}
 use Rattle.ep_pad.specs.declared.entries.PadReply.TheVariants as reply
-use Rattle.ep_message.specs.declared.bad.WireBad.{WireBad}
-use Rattle.ep_message.specs.declared.client.ClientMsg.{ClientMsg}
-use Rattle.ep_message.specs.declared.client.ClientMsg.TheVariants as msgs
-use Rattle.ep_message.specs.declared.client.Resume.{Resume}
-use Rattle.ep_message.specs.declared.server.ServerMsg.{ServerMsg}
-use Rattle.ep_message.specs.declared.server.ServerMsg.TheVariants as msg
+use Rattle.ep_wire_words.specs.declared.bad.WireBad.{WireBad}
+use Rattle.ep_wire_words.specs.declared.client.ClientMsg.{ClientMsg}
+use Rattle.ep_wire_words.specs.declared.client.ClientMsg.TheVariants as msgs
+use Rattle.ep_wire_words.specs.declared.client.Resume.{Resume}
+use Rattle.ep_wire_words.specs.declared.server.ServerMsg.{ServerMsg}
+use Rattle.ep_wire_words.specs.declared.server.ServerMsg.TheVariants as msg
 use Rattle.ep_link.specs.declared.passed.LinkGot.{LinkGot}
 use Rattle.ep_link.specs.declared.passed.LinkGot.TheVariants as got
 use Rattle.ep_session.specs.Acts.{EndsFull}

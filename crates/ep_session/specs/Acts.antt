@@ -7,9 +7,9 @@ use Rattle.ep_pad.specs.declared.entries.PadEntry.{PadEntry}
 use Rattle.ep_pad.specs.declared.entries.PadEntry.TheVariants as entry
 use Rattle.ep_pad.specs.declared.entries.PadReply.{PadReply}
 use Rattle.ep_pad.specs.declared.entries.PadReply.TheVariants as reply
-use Rattle.ep_message.specs.declared.bad.WireBad.{WireBad}
-use Rattle.ep_message.specs.declared.client.ClientMsg.{ClientMsg}
-use Rattle.ep_message.specs.declared.client.ClientMsg.TheVariants.{Edit, Slide}
+use Rattle.ep_wire_words.specs.declared.bad.WireBad.{WireBad}
+use Rattle.ep_wire_words.specs.declared.client.ClientMsg.{ClientMsg}
+use Rattle.ep_wire_words.specs.declared.client.ClientMsg.TheVariants.{Edit, Slide}
 use Rattle.ep_session.specs.Session.{Did, Understood, Then, Runs, Duty, calls_of, is_step, counted}
 use Rattle.ep_session.specs.declared.place.Place.{Place}
 

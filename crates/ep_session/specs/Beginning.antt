@@ -10,8 +10,8 @@ use Rattle.ep_pad.specs.declared.pass_bad.PassBad.{PassBad}
 use Rattle.ep_pad.specs.declared.entries.PadEntry.{PadEntry}
 use Rattle.ep_pad.specs.declared.entries.PadEntry.TheVariants as entry
 use Rattle.ep_pad.specs.declared.entries.PadReply.{PadReply}
-use Rattle.ep_message.specs.declared.client.ClientMsg.TheVariants as msgs
-use Rattle.ep_message.specs.declared.client.Resume.{Resume}
+use Rattle.ep_wire_words.specs.declared.client.ClientMsg.TheVariants as msgs
+use Rattle.ep_wire_words.specs.declared.client.Resume.{Resume}
 use Rattle.ep_link.specs.declared.passed.LinkGot.TheVariants as got
 use Rattle.ep_session.specs.Ends.{end_of_dir, end_of_pass}
 use Rattle.ep_session.specs.Session.{Did, Heard, Understood, Outcome, Ends, asking, calls_of, desk_of, hall_of, nowhere}

@@ -6,10 +6,10 @@ use Rattle.ep_history.specs.declared.pad_bad.PadBad.{PadBad}
 use Rattle.ep_history.specs.declared.pad_bad.PadBad.TheVariants as bad
 use Rattle.ep_history.specs.declared.seat.Why.{Why}
 use Rattle.ep_history.specs.declared.seat.Why.TheVariants as why
-use Rattle.ep_message.specs.declared.bad.WireBad.{WireBad}
-use Rattle.ep_message.specs.declared.bad.WireBad.TheVariants as wire
-use Rattle.ep_message.specs.declared.server.Word.{Word}
-use Rattle.ep_message.specs.declared.server.Word.TheVariants as word
+use Rattle.ep_wire_words.specs.declared.bad.WireBad.{WireBad}
+use Rattle.ep_wire_words.specs.declared.bad.WireBad.TheVariants as wire
+use Rattle.ep_wire_words.specs.declared.server.Word.{Word}
+use Rattle.ep_wire_words.specs.declared.server.Word.TheVariants as word
 use Rattle.ep_pad.specs.declared.pass_bad.PassBad.{PassBad}
 use Rattle.ep_pad.specs.declared.pass_bad.PassBad.TheVariants as pass
 use Rattle.ep_session.specs.declared.end.BadKind.{BadKind}

@@ -5,8 +5,8 @@ use Rattle.ep_pad.specs.declared.entries.PadEntry.{PadEntry}
 use Rattle.ep_pad.specs.declared.entries.PadEntry.TheVariants as entry
 use Rattle.ep_pad.specs.declared.entries.PadReply.{PadReply}
 use Rattle.ep_pad.specs.declared.entries.PadReply.TheVariants as reply
-use Rattle.ep_message.specs.declared.server.ServerMsg.{ServerMsg}
-use Rattle.ep_message.specs.declared.server.ServerMsg.TheVariants as msg
+use Rattle.ep_wire_words.specs.declared.server.ServerMsg.{ServerMsg}
+use Rattle.ep_wire_words.specs.declared.server.ServerMsg.TheVariants as msg
 use Rattle.ep_session.specs.Session.{Did, Said, Outcome, Then, Ends, nowhere, counted, due_at, vars, none_missed, welcome_place, rejoin_place, telling, told, nop_telling, nop_told}
 use Rattle.ep_session.specs.declared.place.Place.{Place}
 

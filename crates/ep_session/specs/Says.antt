@@ -11,10 +11,10 @@ use Rattle.ep_groups.specs.declared.entries.DirReply.{DirReply}
 use Rattle.ep_pad.specs.Halls.{Answer}
 use Rattle.ep_pad.specs.declared.entries.PadEntry.{PadEntry}
 use Rattle.ep_pad.specs.declared.entries.PadReply.{PadReply}
-use Rattle.ep_message.specs.Client.{ReadsClient}
-use Rattle.ep_message.specs.declared.bad.WireBad.{WireBad}
-use Rattle.ep_message.specs.declared.client.ClientMsg.{ClientMsg}
-use Rattle.ep_message.specs.declared.server.ServerMsg.{ServerMsg}
+use Rattle.ep_wire_words.specs.Client.{ReadsClient}
+use Rattle.ep_wire_words.specs.declared.bad.WireBad.{WireBad}
+use Rattle.ep_wire_words.specs.declared.client.ClientMsg.{ClientMsg}
+use Rattle.ep_wire_words.specs.declared.server.ServerMsg.{ServerMsg}
 use Rattle.ep_link.specs.Traffic.{Adds, came}
 use Rattle.ep_link.specs.declared.passed.LinkGot.{LinkGot}
 use Rattle.ep_link.specs.declared.passed.LinkGot.TheVariants as got

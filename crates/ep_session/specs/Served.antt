@@ -11,8 +11,8 @@ use Rattle.ep_pad.specs.declared.entries.PadEntry.{PadEntry}
 use Rattle.ep_pad.specs.declared.entries.PadEntry.TheVariants as entry
 use Rattle.ep_pad.specs.declared.entries.PadReply.{PadReply}
 use Rattle.ep_pad.specs.declared.entries.PadReply.TheVariants as reply
-use Rattle.ep_message.specs.declared.server.ServerMsg.TheVariants as msg
-use Rattle.ep_message.specs.declared.server.Word.{Word}
+use Rattle.ep_wire_words.specs.declared.server.ServerMsg.TheVariants as msg
+use Rattle.ep_wire_words.specs.declared.server.Word.{Word}
 use Rattle.ep_link.specs.Traffic.{Adds}
 use Rattle.ep_link.specs.declared.passed.Passed.{Passed}
 use Rattle.ep_session.specs.Ends.{closing_of, leaves}

@@ -1,5 +1,5 @@
 -- What a session does. Each thing that is due is done in its turn, and its answer says what is due then.
-use Rattle.std.specs.Prelude.{ℕ, zero, suc, ◌≡◌, ◌⊎◌, ◌+◌, ◌-◌, ◌*◌, ◌/◌, ◌^◌, ◌==◌, ◌&&◌, max, min, nat_le, nat_lt, Bool, true, false, List, [], ◌∷◌, ◌++◌, map, length, drop, if◌then◌else◌, Option, Some, None, Result, Ok, Err}
+use Rattle.std.specs.Prelude.{ℕ, zero, suc, ◌≡◌, ◌⊎◌, ◌+◌, ◌-◌, ◌*◌, ◌/◌, ◌^◌, ◌==◌, ◌&&◌, max, min, nat_le, nat_lt, Bool, true, false, List, [], ◌∷◌, ◌++◌, map, length, take, drop, if◌then◌else◌, Option, Some, None, Result, Ok, Err}
 use Rattle.atomic_table.specs.Seated.{TableId}
 use Rattle.serde_json.specs.Written.{compact_text}
 use Rattle.ep_units.specs.Text.{Text}
@@ -31,14 +31,14 @@ use Rattle.ep_pad.specs.declared.entries.PadEntry.{PadEntry}
 use Rattle.ep_pad.specs.declared.entries.PadEntry.TheVariants as entry
 use Rattle.ep_pad.specs.declared.entries.PadReply.{PadReply}
 use Rattle.ep_pad.specs.declared.entries.PadReply.TheVariants as reply
-use Rattle.ep_message.specs.Client.{ReadsClient}
-use Rattle.ep_message.specs.ServerJson.{server_json}
-use Rattle.ep_message.specs.declared.bad.WireBad.{WireBad}
-use Rattle.ep_message.specs.declared.client.ClientMsg.{ClientMsg}
-use Rattle.ep_message.specs.declared.client.ClientMsg.TheVariants as msgs
-use Rattle.ep_message.specs.declared.client.Resume.{Resume}
-use Rattle.ep_message.specs.declared.server.ServerMsg.{ServerMsg}
-use Rattle.ep_message.specs.declared.server.ServerMsg.TheVariants as msg
+use Rattle.ep_wire_words.specs.Client.{ReadsClient}
+use Rattle.ep_wire_words.specs.ServerJson.{server_json}
+use Rattle.ep_wire_words.specs.declared.bad.WireBad.{WireBad}
+use Rattle.ep_wire_words.specs.declared.client.ClientMsg.{ClientMsg}
+use Rattle.ep_wire_words.specs.declared.client.ClientMsg.TheVariants as msgs
+use Rattle.ep_wire_words.specs.declared.client.Resume.{Resume}
+use Rattle.ep_wire_words.specs.declared.server.ServerMsg.{ServerMsg}
+use Rattle.ep_wire_words.specs.declared.server.ServerMsg.TheVariants as msg
 use Rattle.ep_slider.specs.declared.bad.SlideBad.TheVariants.{Granularity}
 use Rattle.ep_link.specs.Traffic.{came}
 use Rattle.ep_link.specs.declared.passed.LinkGot.{LinkGot}
@@ -117,9 +117,13 @@ begun at drawn (Ok (msgs.Ready pad token sessions resume)) = Then at (Ask drawn 
 begun at drawn (Ok m) = Ends at (ends.Bad kind.NotReady)
 begun at drawn (Err bad) = Ends at (end_of_wire bad)
 
--- the directory is asked once, by the first message, in seconds
+-- how many ids of sessions are looked at
+abbrev pub most_ids : ℕ
+most_ids = 100
+
+-- the directory is asked once, by the first message, in seconds, and of the ids of sessions about those that stand first
 abbrev pub asking : Drawn → Ready → ℕ → DirEntry
-asking drawn r now = dir.Grant (record { asked = r.pad; sessions = r.sessions; token = r.token; at = now / 1000; drawn = drawn })
+asking drawn r now = dir.Grant (record { asked = r.pad; sessions = take most_ids r.sessions; token = r.token; at = now / 1000; drawn = drawn })
 
 abbrev pub granted : Place → Ready → Result Grant DirBad → Outcome
 granted at r (Ok grant) = Then at (Enter grant r.resume ∷ [])

@@ -17,11 +17,11 @@ use ep_apply::{Doc, apply, fits};
 use ep_cs::{Change, FitBad};
 use ep_history::Rev;
 use ep_link::Link;
-use ep_message::{Listed, ServerMsg};
 use ep_outside::Clock;
 use ep_pad::{PadBad, PadPort, Piece};
 use ep_slider::{SlideBad, slide};
 use ep_units::NoMemory;
+use ep_wire_words::{Listed, ServerMsg};
 use std::alloc::Global;
 use std::sync::Wait;
 

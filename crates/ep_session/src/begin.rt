@@ -13,11 +13,11 @@ use crate::place::Place;
 use crate::ready::Ready;
 use crate::say::say;
 use ep_link::{Link, LinkGot};
-use ep_message::{ClientMsg, Resume, ServerMsg};
 use ep_outside::{Clock, Text};
 use ep_pad::PadPort;
 use ep_units::Grant;
 use ep_wire::read_client;
+use ep_wire_words::{ClientMsg, Resume, ServerMsg};
 use std::alloc::Global;
 use std::sync::Wait;
 

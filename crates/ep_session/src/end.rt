@@ -5,10 +5,10 @@ ghost use Rattle.ep_session.specs.Ends.{closing_of, end_of_dead, is_gone, is_lef
 
 use ep_dir_records::DirBad;
 use ep_history::Why;
-use ep_message::{WireBad, Word};
 use ep_pad::{PadBad, PassBad};
 use ep_slider::SlideBad;
 use ep_units::{NoMemory, Session, Units};
+use ep_wire_words::{WireBad, Word};
 
 /// What was wrong with a message, or with the answer to it.
 #[derive(Clone, Copy, Debug, PartialEq, Eq)]

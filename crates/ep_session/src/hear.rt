@@ -6,10 +6,10 @@ ghost use Rattle.ep_session.specs.Says.{AskedBy, Hears, IsAllowed, IsCaused};
 use crate::end::{BadKind, End};
 use ep_cs::Change;
 use ep_link::{Link, LinkGot};
-use ep_message::ClientMsg;
 use ep_outside::Text;
 use ep_slider::SlideBad;
 use ep_wire::read_client;
+use ep_wire_words::ClientMsg;
 use std::alloc::Global;
 use std::sync::Wait;
 

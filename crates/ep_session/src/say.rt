@@ -8,9 +8,9 @@ use crate::end::End;
 use crate::place::{Place, counted};
 use ep_history::Rev;
 use ep_link::{Link, LinkBad};
-use ep_message::ServerMsg;
 use ep_units::Session;
 use ep_wire::write_server;
+use ep_wire_words::ServerMsg;
 use std::alloc::Global;
 use std::sync::Wait;
 

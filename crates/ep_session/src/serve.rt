@@ -17,10 +17,10 @@ use crate::turn::turns;
 use ep_dir_records::Drawn;
 use ep_groups::DirPort;
 use ep_link::Link;
-use ep_message::Resume;
 use ep_outside::Clock;
 use ep_pad::PadPort;
 use ep_units::Grant;
+use ep_wire_words::Resume;
 use std::alloc::Global;
 use std::sync::Wait;
 
@@ -185,7 +185,7 @@ pub fn at_desk<R: Wait, L: Link, P: PadPort, G: DirPort, C: Clock>(
         rt,
         &mut desk,
         &ready.pad,
-        ready.sessions.as_slice(),
+        ready.looked_at(),
         &ready.token,
         now / 1000,
         drawn,

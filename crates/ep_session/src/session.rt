@@ -21,10 +21,10 @@ use crate::serve::{Seated, at_desk};
 use ep_dir_records::Drawn;
 use ep_groups::DirPort;
 use ep_link::Link;
-use ep_message::ServerMsg;
 use ep_outside::{Clock, Draws};
 use ep_pad::PadPort;
 use ep_units::Session;
+use ep_wire_words::ServerMsg;
 use std::alloc::Global;
 use std::sync::Wait;
 

@@ -65,18 +65,21 @@ fn bytes(alloc: Global, hex: &str) -> Result<Vec<u8>, Stop> {
     Ok(bytes)
 }
 
+fn file(alloc: Global, name: &str, hex: &Value) -> Result<MemFile, Stop> {
+    let hex = hex.as_str().ok_or(Stop::Wrong)?;
+    let name = pad(alloc, name)?;
+    let bytes = bytes(alloc, hex)?;
+    let fails = Vec::new(alloc);
+    Ok(MemFile { name, bytes, fails })
+}
+
 fn files(alloc: Global, request: &Value) -> Result<Vec<MemFile>, Stop> {
     let mut files = Vec::new(alloc);
     let Some(named) = request.get("files") else {
         return Ok(files);
     };
-    let named = named.as_object().ok_or(Stop::Wrong)?;
-    for (name, hex) in named {
-        files.push(MemFile {
-            name: pad(alloc, name.as_str())?,
-            bytes: bytes(alloc, hex.as_str().ok_or(Stop::Wrong)?)?,
-            fails: Vec::new(alloc),
-        })?;
+    for (name, hex) in named.as_object().ok_or(Stop::Wrong)? {
+        files.push(file(alloc, name.as_str(), hex)?)?;
     }
     Ok(files)
 }
@@ -113,15 +116,15 @@ fn fails(alloc: Global, request: &Value) -> Result<Vec<u64>, Stop> {
     }
 }
 
-/// A link for the receives among what is to come, whose calls of these numbers fail.
-fn link(alloc: Global, steps: &[Value], fails: Vec<u64>) -> Result<MemLink, Stop> {
+/// The receives among what is to come.
+fn receives(alloc: Global, steps: &[Value]) -> Result<VecDeque<Coming>, Stop> {
     let mut all = VecDeque::new(alloc);
     for step in steps {
         if step.get("call").is_none() {
             all.push_back(coming(alloc, step)?)?;
         }
     }
-    Ok(MemLink::new(alloc, all, fails))
+    Ok(all)
 }
 
 /// What a session on these ports comes to.
@@ -133,40 +136,54 @@ fn served<R: Wait, P: PadPort, G: DirPort>(
     link: &mut Played<'_>,
     request: &Value,
 ) -> Result<Map<String, Value>, Stop> {
-    let clock = MemClock::new(vec![in alloc; whole(request, "now")?]?);
+    let now = whole(request, "now")?;
     let drawn = numbers(alloc, array(request, "draws")?)?;
+    let clock = MemClock::new(vec![in alloc; now]?);
     let mut draws = MemDraws::new(&drawn);
     let report = serve_session(rt, alloc, pads, dir, link, &clock, &mut draws);
     told(alloc, &report, link.link.passed())
 }
 
-// The same with the house's directory.
-fn served_by<R: Wait, P: PadPort>(
+fn play<R: Wait>(rt: &R, ports: &Ports, request: &Value) -> Result<Map<String, Value>, Stop> {
+    let steps = array(request, "link")?;
+    let fails = fails(ports.alloc, request)?;
+    let receives = receives(ports.alloc, steps)?;
+    let mut link = Played {
+        link: MemLink::new(ports.alloc, receives, fails),
+        ports,
+        steps,
+    };
+    let Ports { alloc, house } = ports;
+    served(rt, *alloc, house, house, &mut link, request)
+}
+
+/// What is told of the pad that is asked about behind the session.
+fn put_asked<R: Wait>(
     rt: &R,
     ports: &Ports,
-    pads: &P,
-    link: &mut Played<'_>,
     request: &Value,
-) -> Result<Map<String, Value>, Stop> {
-    served(rt, ports.alloc, pads, &ports.house, link, request)
+    members: &mut Map<String, Value>,
+) -> Result<(), Stop> {
+    if request.get("asks").is_none() {
+        return Ok(());
+    }
+    let asked = pad(ports.alloc, text(request, "asks")?)?;
+    put_standing(rt, ports.alloc, &ports.house, &asked, members)
+}
+
+fn make_calls<R: Wait>(rt: &R, ports: &Ports, calls: &[Value]) -> Result<(), Stop> {
+    for call in calls {
+        ports.call(rt, call)?;
+    }
+    Ok(())
 }
 
 fn reply<R: Wait>(rt: &R, alloc: Global, request: &Value) -> Result<Value, Stop> {
+    let before = array(request, "before")?;
     let ports = ports(alloc, request)?;
-    for call in array(request, "before")? {
-        ports.call(rt, call)?;
-    }
-    let steps = array(request, "link")?;
-    let mut link = Played {
-        link: link(alloc, steps, fails(alloc, request)?)?,
-        ports: &ports,
-        steps,
-    };
-    let mut members = served_by(rt, &ports, &ports.house, &mut link, request)?;
-    if request.get("asks").is_some() {
-        let asked = pad(alloc, text(request, "asks")?)?;
-        put_standing(rt, alloc, &ports.house, &asked, &mut members)?;
-    }
+    make_calls(rt, &ports, before)?;
+    let mut members = play(rt, &ports, request)?;
+    put_asked(rt, &ports, request, &mut members)?;
     Ok(Value::Object(members))
 }
 

@@ -6,29 +6,18 @@
 //! sends are counted together), and a pad that is asked about behind the session (`asks`). The reply has what the session
 //! `sent` and how it ended, and the numbers of its report; and of the pad asked about its `head`, and how many of its
 //! sessions are `live`.
-//!
-//! The tests of `ep_house`, `ep_pad_port` and `ep_keep_far` stand here, since they take a shelf and a keeper in memory.
 #![tactic(auto)]
 
 mod answer;
 mod asked;
 mod called;
 mod desk;
-#[cfg(test)]
-mod dir_tests;
-#[cfg(test)]
-mod far_tests;
-#[cfg(test)]
-mod group_tests;
-#[cfg(test)]
-mod house_tests;
+mod pad_calls;
 mod played;
 mod refusal;
 mod standing;
 mod stop;
 mod told;
-#[cfg(test)]
-mod toy_tests;
 
 use crate::answer::answer;
 use std::io;

@@ -1,11 +1,19 @@
 //! How a pad stands, as another caller reads it.
 
 use crate::stop::Stop;
-use ep_pad::PadPort;
+use ep_pad::{PadPort, PadStatus};
 use ep_units::PadId;
-use serde_json::{Map, Value};
+use serde_json::{Map, Value, put};
 use std::alloc::Global;
 use std::sync::Wait;
+
+fn status<R: Wait, P: PadPort>(rt: &R, pads: &P, pad: &PadId) -> Option<PadStatus> {
+    let mut hall = pads.hall(rt);
+    match pads.pass(rt, &mut hall, pad) {
+        Ok(mut pass) => pads.status(rt, &mut pass).ok(),
+        Err(_) => None,
+    }
+}
 
 /// Puts a pad's head, and how many of its sessions are live, where it is there.
 pub fn put_standing<R: Wait, P: PadPort>(
@@ -15,14 +23,10 @@ pub fn put_standing<R: Wait, P: PadPort>(
     pad: &PadId,
     members: &mut Map<String, Value>,
 ) -> Result<(), Stop> {
-    let mut hall = pads.hall(rt);
-    let Ok(mut pass) = pads.pass(rt, &mut hall, pad) else {
+    let Some(status) = status(rt, pads, pad) else {
         return Ok(());
     };
-    let Ok(status) = pads.status(rt, &mut pass) else {
-        return Ok(());
-    };
-    serde_json::put(members, alloc, "head", Value::from(status.head))?;
-    serde_json::put(members, alloc, "live", Value::from(status.live))?;
+    put(members, alloc, "head", Value::from(status.head))?;
+    put(members, alloc, "live", Value::from(status.live))?;
     Ok(())
 }

@@ -3,9 +3,9 @@
 use crate::refusal::Ended;
 use crate::stop::Stop;
 use ep_link::Passed;
-use ep_session::Report;
+use ep_session::{End, Report};
 use ep_units::Session;
-use serde_json::{Map, Value};
+use serde_json::{Map, Value, put};
 use std::alloc::Global;
 
 /// The texts that were sent.
@@ -26,21 +26,33 @@ fn session(alloc: Global, session: Option<Session>) -> Result<Value, Stop> {
     }
 }
 
+fn ended(alloc: Global, end: &End) -> Result<Value, Stop> {
+    let end = Ended(end);
+    Ok(Value::String(format!(in alloc; "{end}")?))
+}
+
+fn put_told<O: Drop, A: Drop, B: Drop>(
+    alloc: Global,
+    report: &Report<O, A, B>,
+    passed: &[Passed],
+    members: &mut Map<String, Value>,
+) -> Result<(), Stop> {
+    put(members, alloc, "cursor", Value::from(report.cursor))?;
+    put(members, alloc, "end", ended(alloc, &report.end)?)?;
+    put(members, alloc, "sent", sent(alloc, passed)?)?;
+    put(members, alloc, "session", session(alloc, report.session)?)?;
+    put(members, alloc, "start", Value::from(report.start))?;
+    put(members, alloc, "taken", Value::from(report.taken))?;
+    Ok(())
+}
+
 /// What the reply has of a session that was served.
 pub fn told<O: Drop, A: Drop, B: Drop>(
     alloc: Global,
     report: &Report<O, A, B>,
     passed: &[Passed],
 ) -> Result<Map<String, Value>, Stop> {
-    let end = Ended(&report.end);
     let mut members = Map::new(alloc);
-    serde_json::put(&mut members, alloc, "cursor", Value::from(report.cursor))?;
-    let end = Value::String(format!(in alloc; "{end}")?);
-    serde_json::put(&mut members, alloc, "end", end)?;
-    serde_json::put(&mut members, alloc, "sent", sent(alloc, passed)?)?;
-    let session = session(alloc, report.session)?;
-    serde_json::put(&mut members, alloc, "session", session)?;
-    serde_json::put(&mut members, alloc, "start", Value::from(report.start))?;
-    serde_json::put(&mut members, alloc, "taken", Value::from(report.taken))?;
+    put_told(alloc, report, passed, &mut members)?;
     Ok(members)
 }

@@ -95,29 +95,3 @@ impl Head<'_> {
         Ok(Step::new(alloc, self.doc, change)?)
     }
 }
-
-#[cfg(test)]
-mod tests {
-    use super::*;
-    use crate::reread::next_step;
-    use std::test::Fail;
-
-    #[test]
-    fn texts_are_set_and_read_back(rt: HostRuntime) -> Result<(), Fail> {
-        let alloc = rt.alloc();
-        let newline = Doc::newline(alloc)?;
-        let head = Head {
-            rev: 0,
-            doc: &newline,
-            limit: 3,
-        };
-        let step = head.set_text(alloc, &Units::from_str(alloc, "ab")?)?;
-        assert_eq!(rt; step.units(), 3);
-        let change = step.edit.change.copy(alloc)?;
-        let again = next_step(alloc, &newline, change, step.fixed())?;
-        assert!(rt; again.is_some_and(|s| s.doc().len() == 3));
-        let revs = step.into_revs_of_nobody(alloc, 7);
-        assert_eq!(rt; revs.edit.rev.time, 7);
-        Ok(())
-    }
-}

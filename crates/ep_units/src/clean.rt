@@ -59,22 +59,3 @@ fn begins_with_line_feed(units: &[u16]) -> bool
         [] => false,
     }
 }
-
-#[cfg(test)]
-mod tests {
-    use super::*;
-    use std::test::Fail;
-
-    #[test]
-    fn cleaned(rt: HostRuntime) -> Result<(), Fail> {
-        for (text, clean) in [
-            ("a\tb\r\nc", "a        b\nc"),
-            ("\r\r\n\n\r", "\n\n\n\n"),
-            ("\u{A0}😀", " 😀"),
-        ] {
-            let cleaned = Units::from_str(rt.alloc(), text)?.clean(rt.alloc())?;
-            assert_eq!(rt; cleaned.to_text_lossy(rt.alloc())?.as_str(), clean);
-        }
-        Ok(())
-    }
-}

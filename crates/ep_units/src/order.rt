@@ -45,29 +45,3 @@ impl Ord for Units {
         self.as_slice().cmp(&other.as_slice())
     }
 }
-
-#[cfg(test)]
-mod tests {
-    use super::*;
-    use std::test::Fail;
-
-    #[test]
-    fn ordered(rt: HostRuntime) -> Result<(), Fail> {
-        for (a, b, order) in [
-            ("", "", Ordering::Equal),
-            ("", "a", Ordering::Less),
-            ("ab", "ab", Ordering::Equal),
-            ("ab", "abc", Ordering::Less),
-            ("b", "abc", Ordering::Greater),
-            ("B", "a", Ordering::Less),
-            ("\u{FFFD}", "😀", Ordering::Greater),
-        ] {
-            let a = Units::from_str(rt.alloc(), a)?;
-            let b = Units::from_str(rt.alloc(), b)?;
-            assert_eq!(rt; a.cmp(&b), order);
-            assert_eq!(rt; a == b, order.is_eq());
-            assert_eq!(rt; a < b, order.is_lt());
-        }
-        Ok(())
-    }
-}

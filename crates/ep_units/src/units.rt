@@ -106,24 +106,3 @@ impl Units {
         Units::from_slice(alloc, self.as_slice())
     }
 }
-
-#[cfg(test)]
-mod tests {
-    use super::*;
-    use std::test::Fail;
-
-    #[test]
-    fn units_of_a_text(rt: HostRuntime) -> Result<(), Fail> {
-        let units = Units::from_str(rt.alloc(), "a😀\n")?;
-        assert_eq!(rt; units.as_slice(), [97, 0xD83D, 0xDE00, 10].as_slice());
-        let mut made = Units::new(rt.alloc());
-        assert!(rt; made.is_empty());
-        made.push(97)?;
-        made.push_all(&[0xD83D, 0xDE00, 10])?;
-        assert_eq!(rt; made.len(), 4);
-        assert_eq!(rt; made.as_slice(), units.copy(rt.alloc())?.as_slice());
-        let one = Units::from_slice(rt.alloc(), &[97])?;
-        assert_eq!(rt; one.as_slice(), [97].as_slice());
-        Ok(())
-    }
-}

@@ -65,36 +65,3 @@ impl Units {
         Ok(String::from_utf16_lossy(alloc, self.as_slice())?)
     }
 }
-
-#[cfg(test)]
-mod tests {
-    use super::*;
-    use std::test::Fail;
-
-    #[test]
-    fn there_and_back(rt: HostRuntime) -> Result<(), Fail> {
-        let units = Units::from_str(rt.alloc(), "a😀\n")?;
-        assert_eq!(rt; units.to_text(rt.alloc())?.as_str(), "a😀\n");
-        assert_eq!(rt; units.to_text_lossy(rt.alloc())?.as_str(), "a😀\n");
-        assert!(rt; units.well_formed());
-        Ok(())
-    }
-
-    #[test]
-    fn half_of_a_pair(rt: HostRuntime) -> Result<(), Fail> {
-        let rows: [(&[u16], u64, &str); 4] = [
-            (&[0xD83D], 0, "\u{FFFD}"),
-            (&[0xDE00, 97], 0, "\u{FFFD}a"),
-            (&[97, 0xD83D, 0xDE00, 0xDE00], 3, "a😀\u{FFFD}"),
-            (&[0xD83D, 0xD83D, 0xDE00], 0, "\u{FFFD}😀"),
-        ];
-        for (units, at, text) in rows {
-            let units = Units::from_slice(rt.alloc(), units)?;
-            assert!(rt; !units.well_formed());
-            let bad = units.to_text(rt.alloc()).err();
-            assert_eq!(rt; bad, Some(TextBad::LonePair(at)));
-            assert_eq!(rt; units.to_text_lossy(rt.alloc())?.as_str(), text);
-        }
-        Ok(())
-    }
-}

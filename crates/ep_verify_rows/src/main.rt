@@ -1,13 +1,7 @@
 //! Files in, a line of hexadecimal digits each, and a verdict on each as `padd verify` is to write it behind a name.
 //!
-//! The files are those of one shelf, judged by four workers and by one. The tests of `ep_verdicts` and `ep_shown` stand
-//! here, since they take devices in memory.
+//! The files are those of one shelf, judged by four workers and by one.
 #![tactic(auto)]
-
-#[cfg(test)]
-mod shown_tests;
-#[cfg(test)]
-mod verdict_tests;
 
 ghost use Rattle.std.specs.Prelude.{◌≤◌};
 

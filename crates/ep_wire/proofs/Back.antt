@@ -16,14 +16,14 @@ use Rattle.ep_cs.specs.Change.{Change}
 use Rattle.ep_cs.specs.Doc.{Doc}
 use Rattle.ep_apply.specs.Documents.{insertion}
 use Rattle.ep_csread.specs.Spelling.{all_named, pairs_named, printed}
-use Rattle.ep_message.specs.declared.client.Resume.{Resume}
-use Rattle.ep_message.specs.declared.client.ClientMsg.TheVariants as client
-use Rattle.ep_message.specs.declared.server.ServerMsg.TheVariants as server
-use Rattle.ep_message.specs.declared.server.Word.{Word}
-use Rattle.ep_message.specs.declared.server.Word.TheVariants as word
-use Rattle.ep_message.specs.ClientJson.{client_json}
-use Rattle.ep_message.specs.Json.{text}
-use Rattle.ep_message.specs.ServerJson.{server_json}
+use Rattle.ep_wire_words.specs.declared.client.Resume.{Resume}
+use Rattle.ep_wire_words.specs.declared.client.ClientMsg.TheVariants as client
+use Rattle.ep_wire_words.specs.declared.server.ServerMsg.TheVariants as server
+use Rattle.ep_wire_words.specs.declared.server.Word.{Word}
+use Rattle.ep_wire_words.specs.declared.server.Word.TheVariants as word
+use Rattle.ep_wire_words.specs.ClientJson.{client_json}
+use Rattle.ep_wire_words.specs.Json.{text}
+use Rattle.ep_wire_words.specs.ServerJson.{server_json}
 use Rattle.ep_wire.specs.Tokens.{Fits, IfFits, IsBack, said}
 use Rattle.ep_wire.proofs.Rising.{entries_low, pool_read}
 

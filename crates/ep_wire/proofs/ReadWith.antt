@@ -4,9 +4,7 @@ use Rattle.std.specs.List.{AllByRecursion, IsDistinct, flat_map}
 use Rattle.std.proofs.lemmas.Map.Made.{length-le_from_is_member}
 use Rattle.ep_units.specs.Text.{Text, is_well_formed}
 use Rattle.ep_attr.specs.AttrMap.{Pair}
-use Rattle.ep_attr.specs.Attrs.{pairs_of}
-use Rattle.ep_attr.specs.declared.attr_map.Attr.{Attr}
-use Rattle.ep_pool.specs.Pool.{has, most_pairs, same_pair}
+use Rattle.ep_pool.specs.Pool.{has, same_pair}
 use Rattle.ep_pool.specs.Read.{AreTexts, IsText}
 use Rattle.ep_pool.proofs.Found.{same_pair_equiv}
 use Rattle.ep_pool.proofs.Gathering.{same_pair_is, same_pair_itself}
@@ -20,25 +18,21 @@ use Rattle.ep_csread.specs.Grammar.{AreRight}
 use Rattle.ep_csread.specs.Reading.{reading, reading_attribs, resolved}
 use Rattle.ep_csread.specs.Spelling.{Numbered, all_named, pairs_named}
 use Rattle.ep_csread.proofs.Spelled.{read_spells, read_spells_text}
-use Rattle.ep_message.specs.Sent.{AreSent, IsSent}
+use Rattle.ep_wire_words.specs.Sent.{AreSent, IsSent}
 use Rattle.ep_wire.specs.ReadWith.{IsReadWith}
-use Rattle.ep_message.proofs.Distinct.{named_distinct}
+use Rattle.ep_wire_words.proofs.Distinct.{named_distinct}
 use Rattle.ep_wire.proofs.Named.{OfCells, OfChange, OfOps, OfPlaces, change_of_of, named_of, resolved_of}
-use Rattle.ep_message.proofs.Joined.{text_appended}
-use Rattle.ep_message.proofs.Units.{IsUnit, all_units, behind_all, both, units_all}
+use Rattle.ep_wire_words.proofs.Joined.{text_appended}
+use Rattle.ep_wire_words.proofs.Units.{IsUnit, all_units, behind_all, both, units_all}
 
 abbrev In : List Pair → Pair → Type 0
 In pool p = has pool p ≡ true
 
 -- ---- pairs of a pool
 
-length_pairs : (attrs : List Attr) → length (pairs_of attrs) ≡ length attrs
-length_pairs [] = refl
-length_pairs (a ∷ attrs) = ap suc (length_pairs attrs)
-
--- a pool has few enough
-pub few_pairs : (attrs : List Attr) (pairs : List Pair) → pairs_of attrs ≡ pairs → length attrs ≤ most_pairs → length pairs < 2 ^ 32
-few_pairs attrs pairs is few = let same : length pairs ≡ length attrs = sym (ap length is) ∙ length_pairs attrs in omega (arith, same, few)
+-- pairs that a number of 32 bits counts are few enough
+pub few_pairs : (n : ℕ) (pairs : List Pair) → n ≡ length pairs → n < 2 ^ 32 → length pairs < 2 ^ 32
+few_pairs n pairs is few = subst (λ (k : ℕ). k < 2 ^ 32) is few
 
 later : (p : Pair) (pool ps : List Pair) → AllByRecursion (In pool) ps → AllByRecursion (In (p ∷ pool)) ps
 later p pool [] all = tt

@@ -3,11 +3,11 @@ use Rattle.std.proofs.Common.{◌≡◌, ℕ, List, [], ◌∷◌, ◌++◌, Opt
 use Rattle.json.specs.Token.{Token, begin_object, end_object}
 use Rattle.serde_json.specs.Data.{string}
 use Rattle.ep_units.specs.Text.{Text}
-use Rattle.ep_message.specs.declared.client.Resume.{Resume}
-use Rattle.ep_message.specs.declared.client.ClientMsg.TheVariants as msg
-use Rattle.ep_message.specs.declared.member.Member.TheVariants as member
-use Rattle.ep_message.specs.ClientJson.{client_json, sessions_member}
-use Rattle.ep_message.specs.Json.{text}
+use Rattle.ep_wire_words.specs.declared.client.Resume.{Resume}
+use Rattle.ep_wire_words.specs.declared.client.ClientMsg.TheVariants as msg
+use Rattle.ep_wire_words.specs.declared.member.Member.TheVariants as member
+use Rattle.ep_wire_words.specs.ClientJson.{client_json, sessions_member}
+use Rattle.ep_wire_words.specs.Json.{text}
 use Rattle.ep_wire.specs.Tokens.{field, fields, reconnect, resumed, said}
 
 abbrev IsReady : Text → Text → List Text → Option Resume → Type 0

@@ -3,7 +3,7 @@ use Rattle.serde_json.specs.View.{view}
 use Rattle.ep_wire.specs.declared.client_reader.ClientRow.{ClientRow}
 use Rattle.ep_wire.specs.declared.client_reader.ClientRow.TheVariants as code
 use Rattle.ep_wire.specs.declared.client_reader.EditMembers.{EditMembers as Members}
-use Rattle.ep_message.specs.Client.{EditMembers, Row, ready, edit, slide, other}
+use Rattle.ep_wire_words.specs.Client.{EditMembers, Row, ready, edit, slide, other}
 
 abbrev pub row_view : ClientRow → Row
 row_view (code.Ready d) = ready (view d.now)

@@ -6,7 +6,7 @@ use Rattle.ep_wire.specs.declared.server_reader.VarsMembers.{VarsMembers as Code
 use Rattle.ep_wire.specs.declared.server_reader.NewsMembers.{NewsMembers as CodeNews}
 use Rattle.ep_wire.specs.declared.server_reader.BackMembers.{BackMembers as CodeBack}
 use Rattle.ep_wire.specs.declared.server_reader.SlidMembers.{SlidMembers as CodeSlid}
-use Rattle.ep_message.specs.Server.{Row, vars, accepted, news, reconnect, reconnect_none, slid, closing, VarsMembers, NewsMembers, BackMembers, SlidMembers}
+use Rattle.ep_wire_words.specs.Server.{Row, vars, accepted, news, reconnect, reconnect_none, slid, closing, VarsMembers, NewsMembers, BackMembers, SlidMembers}
 
 abbrev pub row_view : ServerRow → Row
 row_view (code.Vars d) = vars (view d.now)

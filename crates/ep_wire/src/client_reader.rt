@@ -2,18 +2,18 @@
 
 ghost use Rattle.std.specs.Prelude.{◌≡◌, true, IfOk};
 ghost use Rattle.serde_json.specs.View.{view};
-ghost use Rattle.ep_message.specs.Answer.{Answers, Gives, Then};
-ghost use Rattle.ep_message.specs.Client.{ReadsClient, ReadsRow, Row, collab_row, edit_members, ready_in, resume_of, rev_if, row_of, slide_in};
+ghost use Rattle.ep_wire_words.specs.Answer.{Answers, Gives, Then};
+ghost use Rattle.ep_wire_words.specs.Client.{ReadsClient, ReadsRow, Row, collab_row, edit_members, ready_in, resume_of, rev_if, row_of, slide_in};
 ghost use Rattle.ep_wire.specs.Rows.{edit_view, row_view};
-ghost use Rattle.ep_message.specs.Sent.{IfSmall, IfText, IsResume, IsSentByClient, IsSmall};
+ghost use Rattle.ep_wire_words.specs.Sent.{IfSmall, IfText, IsResume, IsSentByClient, IsSmall};
 
 use crate::pooled::change;
-use ep_message::members::{
+use ep_units::Units;
+use ep_wire_words::members::{
     json, member, object, optional_flag, optional_units, optional_whole, text, units, whole,
 };
-use ep_message::session::sessions;
-use ep_message::{ClientMsg, Member, Resume, WireBad};
-use ep_units::Units;
+use ep_wire_words::session::sessions;
+use ep_wire_words::{ClientMsg, Member, Resume, WireBad};
 use serde_json::Value;
 use std::alloc::Global;
 

@@ -1,18 +1,21 @@
 //! Writing what a client says.
 
-ghost use Rattle.std.specs.Prelude.{◌≡◌, ◌++◌, ◌∷◌, Some, IfOk, OnOk, string_bytes};
+ghost use Rattle.std.specs.Prelude.{◌≡◌, ◌<◌, ◌^◌, ◌++◌, ◌∷◌, [], Some, IfOk, OnOk, length, string_bytes};
 ghost use Rattle.std.specs.List.{flat_map};
 ghost use Rattle.serde_json.specs.Read.{read};
 ghost use Rattle.serde_json.specs.Written.{compact_text};
-ghost use Rattle.ep_message.specs.ClientJson.{client_json, joined, sessions_member};
-ghost use Rattle.ep_wire.specs.Tokens.{Fits, IsBack, fields, reconnect, resumed, said};
-ghost use Rattle.ep_message.specs.declared.client.ClientMsg.TheVariants as msg;
+ghost use Rattle.ep_csread.specs.Spelling.{pairs_named};
+ghost use Rattle.ep_wire_words.specs.ClientJson.{client_json, joined, sessions_member};
+ghost use Rattle.ep_wire_words.specs.Json.{whole};
+ghost use Rattle.ep_wire_words.specs.ServerJson.{changeset, pool};
+ghost use Rattle.ep_wire.specs.Tokens.{Fits, IsBack, fields, reconnect, resumed, said, with_fields};
+ghost use Rattle.ep_wire_words.specs.declared.client.ClientMsg.TheVariants as msg;
 
 use crate::printing::Out;
 use ep_cs::Change;
 use ep_csread::for_wire;
-use ep_message::{ClientMsg, Listed, Member, Resume};
 use ep_units::{NoMemory, Units};
+use ep_wire_words::{ClientMsg, Listed, Member, Resume};
 use std::alloc::Global;
 
 /// Texts with commas between them.
@@ -86,15 +89,24 @@ fn ready(
     Ok(())
 }
 
+/// The members of an edit that tell its change, and of which revision it is.
+fn based(alloc: Global, out: &mut Out, base: u64, change: &Change) -> Result<(), NoMemory>
+    ensures tokens { OnOk result (out.new ≡ with_fields out.old ((Member.Apool, pool change.now) ∷ ((Member.BaseRev, whole base) ∷ ((Member.Changeset, changeset change.now) ∷ [])))) }
+    ensures few { OnOk result (length (pairs_named change.now.runs) < 2 ^ 64) }
+{
+    let wire = for_wire(alloc, change)?;
+    out.pool(&wire.pool)?;
+    out.whole(Member::BaseRev, base)?;
+    out.units(Member::Changeset, &wire.text)?;
+    Ok(())
+}
+
 fn edit(alloc: Global, out: &mut Out, base: u64, change: &Change) -> Result<(), NoMemory>
     ensures tokens { OnOk result (out.new ≡ out.old ++ said (client_json (msg.Edit base change.now))) }
     ensures back { OnOk result (IsBack (client_json (msg.Edit base change.now))) }
 {
-    let wire = for_wire(alloc, change)?;
     out.begin_data()?;
-    out.pool(&wire.pool)?;
-    out.whole(Member::BaseRev, base)?;
-    out.units(Member::Changeset, &wire.text)?;
+    based(alloc, out, base, change)?;
     out.word(Member::Type, "USER_CHANGES")?;
     out.end_data("COLLABROOM")?;
     Ok(())

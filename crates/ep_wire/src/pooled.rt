@@ -4,20 +4,20 @@ ghost use Rattle.std.specs.Prelude.{IfOk, ◌++◌};
 ghost use Rattle.std.specs.List.{AllByRecursion};
 ghost use Rattle.serde_json.specs.Find.{as_str};
 ghost use Rattle.serde_json.specs.View.{items_view, view};
-ghost use Rattle.ep_message.specs.Answer.{Answers, Gives};
+ghost use Rattle.ep_wire_words.specs.Answer.{Answers, Gives};
 ghost use Rattle.ep_units.specs.Utf8.{units_of};
 ghost use Rattle.ep_csread.specs.Reading.{reading};
 ghost use Rattle.ep_apply.specs.Documents.{insertion};
-ghost use Rattle.ep_message.specs.Pools.{ReadsChange, ReadsDoc, ReadsSteps, all_read, of_changeset, text_read};
-ghost use Rattle.ep_message.specs.Sent.{AreSent, IsSent};
+ghost use Rattle.ep_wire_words.specs.Pools.{ReadsChange, ReadsDoc, ReadsSteps, all_read, of_changeset, text_read};
+ghost use Rattle.ep_wire_words.specs.Sent.{AreSent, IsSent};
 ghost use Rattle.ep_wire.specs.ReadWith.{IsReadWith};
 
 use ep_apply::{Doc, apply};
 use ep_cs::Change;
 use ep_csread::{read, read_attribs};
-use ep_message::members::units_from;
-use ep_message::{Listed, Member, WireBad};
 use ep_pool::Pool;
+use ep_wire_words::members::units_from;
+use ep_wire_words::{Listed, Member, WireBad};
 use serde_json::Value;
 use std::alloc::Global;
 
@@ -38,6 +38,8 @@ pub fn change(alloc: Global, changeset: &str, pool: &Value) -> Result<Change, Wi
     ensures sent { IfOk result IsSent }
 {
     let pool = Pool::from_json(alloc, pool)?;
+    // So it has fewer than 2^32 pairs.
+    let _pairs = pool.len();
     Ok(spelled(alloc, changeset, &pool)?)
 }
 
@@ -49,6 +51,8 @@ pub fn document(alloc: Global, text: &str, attribs: &str, pool: &Value) -> Resul
     let text = units_from(alloc, text)?;
     let attribs = units_from(alloc, attribs)?;
     let pool = Pool::from_json(alloc, pool)?;
+    // So it has fewer than 2^32 pairs.
+    let _pairs = pool.len();
     let change = read_attribs(alloc, &text, &attribs, &pool)?;
     // Its operations are normal.
     let _runs = change.ops();
@@ -85,6 +89,8 @@ pub fn steps(
     ensures sent { IfOk result (λ x. AreSent (x.1 ++ x.0)) }
 {
     let pool = Pool::from_json(alloc, pool)?;
+    // So it has fewer than 2^32 pairs.
+    let _pairs = pool.len();
     let first = changesets(alloc, first, &pool)?;
     let second = changesets(alloc, second, &pool)?;
     Ok((first, second))

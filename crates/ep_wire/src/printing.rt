@@ -11,15 +11,15 @@ ghost use Rattle.serde_json.specs.Find.{as_object, get};
 ghost use Rattle.serde_json.specs.View.{members_view, view};
 ghost use Rattle.serde_json.specs.Written.{members_outline};
 ghost use Rattle.ep_pool.specs.Json.{pool_json};
-ghost use Rattle.ep_message.specs.Json.{session, text, texts, whole};
-ghost use Rattle.ep_message.specs.Members.{name};
-ghost use Rattle.ep_message.specs.ClientJson.{if_some};
-ghost use Rattle.ep_wire.specs.Tokens.{IfFits, field, fields, said};
+ghost use Rattle.ep_wire_words.specs.Json.{session, text, texts, whole};
+ghost use Rattle.ep_wire_words.specs.Members.{name};
+ghost use Rattle.ep_wire_words.specs.ClientJson.{if_some};
+ghost use Rattle.ep_wire.specs.Tokens.{IfFits, field, fields, pool_of, said};
 
-use ep_message::Member;
-use ep_message::session::session_text;
 use ep_pool::Pool;
 use ep_units::{NoMemory, Session, Units};
+use ep_wire_words::Member;
+use ep_wire_words::session::session_text;
 use json::{Token, Writer};
 use serde_json::{Map, Value};
 use std::alloc::Global;
@@ -216,6 +216,20 @@ impl Out {
         self.end()
     }
 
+    /// The member that is a pool of so many pairs, with the entries of its JSON.
+    fn pool_of(&mut self, count: u64, entries: &Map<String, Value>) -> Result<(), NoMemory>
+        ensures { OnOk result (self.new ≡ self.old ++ field Member.Apool (pool_of count (members_view entries.now.entries))) }
+    {
+        self.open(Member::Apool)?;
+        self.put(Token::Key("nextNum"))?;
+        self.number(count)?;
+        self.put(Token::Key("numToAttrib"))?;
+        self.begin()?;
+        self.entries(entries)?;
+        self.end()?;
+        Ok(())
+    }
+
     pub fn pool(&mut self, pool: &Pool) -> Result<(), NoMemory>
         ensures tokens { OnOk result (self.new ≡ self.old ++ field Member.Apool (pool_json pool.now.pairs)) }
         ensures few { OnOk result (length pool.now.pairs < 2 ^ 64) }
@@ -224,13 +238,7 @@ impl Out {
         let Some(entries) = entries_of(&json) else {
             return Err(NoMemory);
         };
-        self.open(Member::Apool)?;
-        self.put(Token::Key("nextNum"))?;
-        self.number(u64::from(pool.len()))?;
-        self.put(Token::Key("numToAttrib"))?;
-        self.begin()?;
-        self.entries(entries)?;
-        self.end()?;
+        self.pool_of(u64::from(pool.len()), entries)?;
         Ok(())
     }
 }

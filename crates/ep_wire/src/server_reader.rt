@@ -2,18 +2,18 @@
 
 ghost use Rattle.std.specs.Prelude.{◌≡◌, codes, IfOk};
 ghost use Rattle.serde_json.specs.View.{view};
-ghost use Rattle.ep_message.specs.Answer.{Answers, Gives};
-ghost use Rattle.ep_message.specs.Server.{ReadsRow, ReadsServer, Row, accepted_in, back_members, collab_named, collab_row, disconnect_word, news_members, none_in, row_named, row_of, slid_members, status_word, typed_row, vars_members};
-ghost use Rattle.ep_message.specs.Sent.{IsSentByServer, IsSession, IsSmall};
+ghost use Rattle.ep_wire_words.specs.Answer.{Answers, Gives};
+ghost use Rattle.ep_wire_words.specs.Server.{ReadsRow, ReadsServer, Row, accepted_in, back_members, collab_named, collab_row, disconnect_word, news_members, none_in, row_named, row_of, slid_members, status_word, typed_row, vars_members};
+ghost use Rattle.ep_wire_words.specs.Sent.{IsSentByServer, IsSession, IsSmall};
 ghost use Rattle.ep_wire.specs.ServerRows.{back_view, news_view, row_view, slid_view, vars_view};
 
 use crate::pooled::{change, document, steps};
-use ep_message::members::{
+use ep_units::Session;
+use ep_wire_words::members::{
     array_of_texts, flag, json, member, object, optional_flag, text, units_from, whole,
 };
-use ep_message::session::session;
-use ep_message::{Member, ServerMsg, WireBad, Word};
-use ep_units::Session;
+use ep_wire_words::session::session;
+use ep_wire_words::{Member, ServerMsg, WireBad, Word};
 use serde_json::Value;
 use std::alloc::Global;
 

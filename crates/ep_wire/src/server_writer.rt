@@ -1,20 +1,25 @@
 //! Writing what the server says.
 
-ghost use Rattle.std.specs.Prelude.{◌≡◌, ◌<◌, ◌≤◌, ◌^◌, ◌++◌, Some, IfOk, OnOk, drop, length, map, string_bytes, take};
-ghost use Rattle.ep_csread.specs.Spelling.{all_named, pairs_named, printed};
+ghost use Rattle.std.specs.Prelude.{◌≡◌, ◌<◌, ◌≤◌, ◌^◌, ◌∷◌, ◌++◌, [], true, Some, IfOk, OnOk, drop, length, map, string_bytes, take};
+ghost use Rattle.json.specs.Token.{begin_object, key};
+ghost use Rattle.ep_pool.specs.Json.{pool_json};
+ghost use Rattle.ep_cs.specs.Doc.{text_of};
+ghost use Rattle.ep_csread.specs.Spelling.{all_named, ops_text, pairs_named, printed};
 ghost use Rattle.ep_apply.specs.Documents.{insertion};
 ghost use Rattle.serde_json.specs.Read.{read};
 ghost use Rattle.serde_json.specs.Written.{compact_text};
-ghost use Rattle.ep_message.specs.ServerJson.{attributed, pad_now, pool, server_json, told, told_by};
-ghost use Rattle.ep_wire.specs.Tokens.{IsBack, field, said};
-ghost use Rattle.ep_message.specs.declared.server.ServerMsg.TheVariants as msg;
+ghost use Rattle.ep_wire_words.specs.Json.{text, whole};
+ghost use Rattle.ep_wire_words.specs.Members.{name};
+ghost use Rattle.ep_wire_words.specs.ServerJson.{changeset, changesets, pad_now, pool, server_json, told, told_by};
+ghost use Rattle.ep_wire.specs.Tokens.{IsBack, field, is_of_revision, said, with_fields};
+ghost use Rattle.ep_wire_words.specs.declared.server.ServerMsg.TheVariants as msg;
 
 use crate::printing::Out;
 use ep_apply::Doc;
 use ep_cs::Change;
-use ep_csread::{Wires, for_wire, for_wire_all, print_attribs};
-use ep_message::{Listed, Member, ServerMsg, Word};
+use ep_csread::{Wire, Wires, for_wire, for_wire_all, print_attribs};
 use ep_units::{NoMemory, Session, Units};
+use ep_wire_words::{Listed, Member, ServerMsg, Word};
 use std::alloc::Global;
 
 fn word_of(word: Word) -> &'static str
@@ -62,6 +67,18 @@ fn accepted(out: &mut Out, rev: u64, session: Session) -> Result<(), NoMemory>
     Ok(())
 }
 
+/// The members of a revision that tell its change, and who made it.
+fn revision(alloc: Global, out: &mut Out, change: &Change, author: &Units) -> Result<(), NoMemory>
+    ensures tokens { OnOk result (out.new ≡ with_fields out.old ((Member.Apool, pool change.now) ∷ ((Member.Author, text author.now) ∷ ((Member.Changeset, changeset change.now) ∷ [])))) }
+    ensures few { OnOk result (length (pairs_named change.now.runs) < 2 ^ 64) }
+{
+    let wire = for_wire(alloc, change)?;
+    out.pool(&wire.pool)?;
+    out.units(Member::Author, author)?;
+    out.units(Member::Changeset, &wire.text)?;
+    Ok(())
+}
+
 fn news(
     alloc: Global,
     out: &mut Out,
@@ -75,11 +92,8 @@ fn news(
     ensures tokens { OnOk result (out.new ≡ out.old ++ said (server_json (msg.News rev change.now author.now session time delta))) }
     ensures back { OnOk result (IsBack (server_json (msg.News rev change.now author.now session time delta))) }
 {
-    let wire = for_wire(alloc, change)?;
     out.begin_data()?;
-    out.pool(&wire.pool)?;
-    out.units(Member::Author, author)?;
-    out.units(Member::Changeset, &wire.text)?;
+    revision(alloc, out, change, author)?;
     out.whole(Member::CurrentTime, time)?;
     out.whole(Member::NewRev, rev)?;
     out.session(Member::Session, session)?;
@@ -89,13 +103,32 @@ fn news(
     Ok(())
 }
 
-/// What every message about a client's coming back says.
+/// What a client who comes back is told beside each revision.
 #[derive(Clone, Copy)]
 struct Back {
     current: Session,
     birth: u64,
     head: u64,
     rev: u64,
+}
+
+/// The members up to the changeset of a revision that a client who came back hasn't heard.
+fn unheard(
+    alloc: Global,
+    out: &mut Out,
+    birth: u64,
+    change: &Change,
+    author: &Units,
+) -> Result<(), NoMemory>
+    ensures tokens { OnOk result (out.new ≡ with_fields out.old ((Member.Apool, pool change.now) ∷ ((Member.Author, text author.now) ∷ ((Member.Birth, whole birth) ∷ ((Member.Changeset, changeset change.now) ∷ []))))) }
+    ensures few { OnOk result (length (pairs_named change.now.runs) < 2 ^ 64) }
+{
+    let wire = for_wire(alloc, change)?;
+    out.pool(&wire.pool)?;
+    out.units(Member::Author, author)?;
+    out.whole(Member::Birth, birth)?;
+    out.units(Member::Changeset, &wire.text)?;
+    Ok(())
 }
 
 fn reconnect(
@@ -110,12 +143,8 @@ fn reconnect(
     ensures tokens { OnOk result (out.new ≡ out.old ++ said (server_json (msg.Reconnect back.current back.birth back.head back.rev change.now author.now session time))) }
     ensures back { OnOk result (IsBack (server_json (msg.Reconnect back.current back.birth back.head back.rev change.now author.now session time))) }
 {
-    let wire = for_wire(alloc, change)?;
     out.begin_data()?;
-    out.pool(&wire.pool)?;
-    out.units(Member::Author, author)?;
-    out.whole(Member::Birth, back.birth)?;
-    out.units(Member::Changeset, &wire.text)?;
+    unheard(alloc, out, back.birth, change, author)?;
     out.session(Member::Current, back.current)?;
     out.whole(Member::CurrentTime, time)?;
     out.whole(Member::HeadRev, back.head)?;
@@ -126,19 +155,53 @@ fn reconnect(
     Ok(())
 }
 
-fn reconnect_none(out: &mut Out, back: Back) -> Result<(), NoMemory>
-    ensures tokens { OnOk result (out.new ≡ out.old ++ said (server_json (msg.ReconnectNone back.current back.birth back.head back.rev))) }
-    ensures back { OnOk result (IsBack (server_json (msg.ReconnectNone back.current back.birth back.head back.rev))) }
+fn reconnect_none(
+    out: &mut Out,
+    current: Session,
+    birth: u64,
+    head: u64,
+    rev: u64,
+) -> Result<(), NoMemory>
+    ensures tokens { OnOk result (out.new ≡ out.old ++ said (server_json (msg.ReconnectNone current birth head rev))) }
+    ensures back { OnOk result (IsBack (server_json (msg.ReconnectNone current birth head rev))) }
 {
     out.begin_data()?;
-    out.whole(Member::Birth, back.birth)?;
-    out.session(Member::Current, back.current)?;
-    out.whole(Member::HeadRev, back.head)?;
-    out.whole(Member::NewRev, back.rev)?;
+    out.whole(Member::Birth, birth)?;
+    out.session(Member::Current, current)?;
+    out.whole(Member::HeadRev, head)?;
+    out.whole(Member::NewRev, rev)?;
     out.flag(Member::NoChanges, true)?;
     out.word(Member::Type, "CLIENT_RECONNECT")?;
     out.end_data("COLLABROOM")?;
     Ok(())
+}
+
+/// A document's attributes in wire form.
+fn attribs_of(alloc: Global, doc: &Doc) -> Result<Wire, NoMemory>
+    ensures text { IfOk result (λ wire. wire.text ≡ ops_text (pairs_named (insertion doc.now).runs) (insertion doc.now).runs) }
+    ensures pool { IfOk result (λ wire. wire.pool.pairs ≡ pairs_named (insertion doc.now).runs) }
+{
+    let inserted = doc.as_insert(alloc)?;
+    Ok(print_attribs(alloc, &inserted)?)
+}
+
+/// A document's pool, and its attributes within the object of its text.
+fn attribs(alloc: Global, out: &mut Out, doc: &Doc) -> Result<(), NoMemory>
+    ensures tokens { OnOk result (out.new ≡ ((out.old ++ field Member.Apool (pool (insertion doc.now))) ++ key (name Member.InitialAttributedText) ∷ (begin_object ∷ [])) ++ field Member.Attribs (text (ops_text (pairs_named (insertion doc.now).runs) (insertion doc.now).runs))) }
+    ensures few { OnOk result (length (pairs_named (insertion doc.now).runs) < 2 ^ 64) }
+{
+    let wire = attribs_of(alloc, doc)?;
+    out.pool(&wire.pool)?;
+    out.open(Member::InitialAttributedText)?;
+    out.units(Member::Attribs, &wire.text)?;
+    Ok(())
+}
+
+fn text(alloc: Global, out: &mut Out, doc: &Doc) -> Result<(), NoMemory>
+    ensures { OnOk result (out.new ≡ out.old ++ field Member.Text (text (text_of doc.now))) }
+{
+    let text = doc.text(alloc)?;
+    out.units(Member::Text, &text)
 }
 
 /// A pad as it stands.
@@ -146,13 +209,9 @@ fn pad_now(alloc: Global, out: &mut Out, rev: u64, doc: &Doc, time: u64) -> Resu
     ensures tokens { OnOk result (out.new ≡ out.old ++ field Member.CollabClientVars (pad_now rev doc.now time)) }
     ensures few { OnOk result (length (pairs_named (insertion doc.now).runs) < 2 ^ 64) }
 {
-    let wire = print_attribs(alloc, &doc.as_insert(alloc)?)?;
-    let text = doc.text(alloc)?;
     out.open(Member::CollabClientVars)?;
-    out.pool(&wire.pool)?;
-    out.open(Member::InitialAttributedText)?;
-    out.units(Member::Attribs, &wire.text)?;
-    out.units(Member::Text, &text)?;
+    attribs(alloc, out, doc)?;
+    text(alloc, out, doc)?;
     out.end()?;
     out.whole(Member::Rev, rev)?;
     out.whole(Member::Time, time)?;
@@ -219,64 +278,55 @@ fn wires(
     Ok(for_wire_all(alloc, &all)?)
 }
 
-/// Which steps of the history were asked for, and where they end.
-#[derive(Clone, Copy)]
-struct Steps {
-    start: u64,
-    reached: u64,
-    granularity: u64,
-    request: u64,
+/// The pool of steps of the history, and their changesets.
+fn changesets(
+    alloc: Global,
+    out: &mut Out,
+    forward: &Listed<Change>,
+    backward: &Listed<Change>,
+) -> Result<(), NoMemory>
+    ensures tokens { OnOk result (out.new ≡ with_fields out.old ((Member.Apool, pool_json (all_named (forward.now ++ backward.now))) ∷ ((Member.BackwardsChangesets, changesets (forward.now ++ backward.now) backward.now) ∷ ((Member.ForwardsChangesets, changesets (forward.now ++ backward.now) forward.now) ∷ [])))) }
+    ensures few { OnOk result (length (all_named (forward.now ++ backward.now)) < 2 ^ 64) }
+{
+    let wires = wires(alloc, forward, backward)?;
+    let turn = forward.as_slice().len();
+    let (forward, backward) = wires.texts.split_at(turn);
+    out.pool(&wires.pool)?;
+    out.texts(Member::BackwardsChangesets, backward)?;
+    out.texts(Member::ForwardsChangesets, forward)?;
+    Ok(())
 }
 
 fn slid(
     alloc: Global,
     out: &mut Out,
-    steps: Steps,
+    start: u64,
+    reached: u64,
+    granularity: u64,
+    request: u64,
     forward: &Listed<Change>,
     backward: &Listed<Change>,
 ) -> Result<(), NoMemory>
-    ensures tokens { OnOk result (out.new ≡ out.old ++ said (server_json (msg.Slid steps.start steps.reached steps.granularity steps.request forward.now backward.now))) }
-    ensures back { OnOk result (IsBack (server_json (msg.Slid steps.start steps.reached steps.granularity steps.request forward.now backward.now))) }
+    ensures tokens { OnOk result (out.new ≡ out.old ++ said (server_json (msg.Slid start reached granularity request forward.now backward.now))) }
+    ensures back { OnOk result (IsBack (server_json (msg.Slid start reached granularity request forward.now backward.now))) }
 {
-    let wires = wires(alloc, forward, backward)?;
-    let turn = forward.as_slice().len();
-    let (forward, backward) = wires.texts.split_at(turn);
     out.begin_data()?;
-    out.whole(Member::ActualEndNum, steps.reached)?;
-    out.pool(&wires.pool)?;
-    out.texts(Member::BackwardsChangesets, backward)?;
-    out.texts(Member::ForwardsChangesets, forward)?;
-    out.whole(Member::Granularity, steps.granularity)?;
-    out.whole(Member::RequestId, steps.request)?;
-    out.whole(Member::Start, steps.start)?;
+    out.whole(Member::ActualEndNum, reached)?;
+    changesets(alloc, out, forward, backward)?;
+    out.whole(Member::Granularity, granularity)?;
+    out.whole(Member::RequestId, request)?;
+    out.whole(Member::Start, start)?;
     out.end_data("CHANGESET_REQ")?;
     Ok(())
 }
 
-fn message(alloc: Global, out: &mut Out, msg: &ServerMsg) -> Result<(), NoMemory>
+/// A revision, or what a client who came back is told.
+fn of_revision(alloc: Global, out: &mut Out, msg: &ServerMsg) -> Result<(), NoMemory>
+    requires { is_of_revision msg.now ≡ true }
     ensures tokens { OnOk result (out.new ≡ out.old ++ said (server_json msg.now)) }
     ensures back { OnOk result (IsBack (server_json msg.now)) }
 {
     match msg {
-        ServerMsg::Vars {
-            pad,
-            author,
-            read_only,
-            session,
-            birth,
-            rev,
-            doc,
-            time,
-        } => {
-            let entry = Entry {
-                pad,
-                author,
-                read_only: *read_only,
-                session: *session,
-                birth: *birth,
-            };
-            vars(alloc, out, entry, *rev, doc, *time)
-        }
         ServerMsg::Accepted { rev, session } => accepted(out, *rev, *session),
         ServerMsg::News {
             rev,
@@ -309,15 +359,37 @@ fn message(alloc: Global, out: &mut Out, msg: &ServerMsg) -> Result<(), NoMemory
             birth,
             head,
             rev,
-        } => reconnect_none(
-            out,
-            Back {
-                current: *current,
+        } => reconnect_none(out, *current, *birth, *head, *rev),
+        ServerMsg::Vars { .. } => unreachable!(),
+        ServerMsg::Slid { .. } => unreachable!(),
+        ServerMsg::Closing(_) => unreachable!(),
+    }
+}
+
+fn message(alloc: Global, out: &mut Out, msg: &ServerMsg) -> Result<(), NoMemory>
+    ensures tokens { OnOk result (out.new ≡ out.old ++ said (server_json msg.now)) }
+    ensures back { OnOk result (IsBack (server_json msg.now)) }
+{
+    match msg {
+        ServerMsg::Vars {
+            pad,
+            author,
+            read_only,
+            session,
+            birth,
+            rev,
+            doc,
+            time,
+        } => {
+            let entry = Entry {
+                pad,
+                author,
+                read_only: *read_only,
+                session: *session,
                 birth: *birth,
-                head: *head,
-                rev: *rev,
-            },
-        ),
+            };
+            vars(alloc, out, entry, *rev, doc, *time)
+        }
         ServerMsg::Slid {
             start,
             reached,
@@ -325,16 +397,18 @@ fn message(alloc: Global, out: &mut Out, msg: &ServerMsg) -> Result<(), NoMemory
             request,
             forward,
             backward,
-        } => {
-            let steps = Steps {
-                start: *start,
-                reached: *reached,
-                granularity: *granularity,
-                request: *request,
-            };
-            slid(alloc, out, steps, forward, backward)
-        }
+        } => slid(
+            alloc,
+            out,
+            *start,
+            *reached,
+            *granularity,
+            *request,
+            forward,
+            backward,
+        ),
         ServerMsg::Closing(word) => closing(out, *word),
+        _ => of_revision(alloc, out, msg),
     }
 }
 

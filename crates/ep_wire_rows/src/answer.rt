@@ -5,6 +5,7 @@ use crate::message::{client_message, server_message};
 use crate::refusal::Refusal;
 use crate::stop::Stop;
 use crate::told::{client_value, server_value};
+use ep_units::NoMemory;
 use ep_wire::{WireBad, read_client, read_server, write_client, write_server};
 use serde_json::error::Category;
 use serde_json::{Map, Value};
@@ -26,34 +27,50 @@ fn refused(alloc: Global, bad: WireBad) -> Result<Value, Stop> {
     )
 }
 
-fn read(alloc: Global, request: &Value, by_server: bool) -> Result<Value, Stop> {
+/// The reply with the value of a message.
+fn told(alloc: Global, value: Result<Value, NoMemory>) -> Result<Value, Stop> {
+    with(alloc, "value", value?)
+}
+
+fn read_client_in(alloc: Global, request: &Value) -> Result<Value, Stop> {
     let sent = text(request, "text")?;
     let limit = whole(request, "limit")?;
-    if by_server {
-        match read_server(alloc, sent, limit) {
-            Ok(message) => with(alloc, "value", server_value(alloc, &message)?),
-            Err(bad) => refused(alloc, bad),
-        }
-    } else {
-        match read_client(alloc, sent, limit) {
-            Ok(message) => with(alloc, "value", client_value(alloc, &message)?),
-            Err(bad) => refused(alloc, bad),
-        }
+    match read_client(alloc, sent, limit) {
+        Ok(message) => told(alloc, client_value(alloc, &message)),
+        Err(bad) => refused(alloc, bad),
     }
+}
+
+fn read_server_in(alloc: Global, request: &Value) -> Result<Value, Stop> {
+    let sent = text(request, "text")?;
+    let limit = whole(request, "limit")?;
+    match read_server(alloc, sent, limit) {
+        Ok(message) => told(alloc, server_value(alloc, &message)),
+        Err(bad) => refused(alloc, bad),
+    }
+}
+
+/// The reply with the text of a message.
+fn written(alloc: Global, text: Result<String, NoMemory>) -> Result<Value, Stop> {
+    with(alloc, "text", Value::String(text?))
+}
+
+fn write_client_of(alloc: Global, request: &Value) -> Result<Value, Stop> {
+    let message = client_message(alloc, member(request, "value")?)?;
+    written(alloc, write_client(alloc, &message))
+}
+
+fn write_server_of(alloc: Global, request: &Value) -> Result<Value, Stop> {
+    let message = server_message(alloc, member(request, "value")?)?;
+    written(alloc, write_server(alloc, &message))
 }
 
 fn reply(alloc: Global, request: &Value) -> Result<Value, Stop> {
     match text(request, "what")? {
-        "read_client" => read(alloc, request, false),
-        "read_server" => read(alloc, request, true),
-        "write_client" => {
-            let message = client_message(alloc, member(request, "value")?)?;
-            with(alloc, "text", Value::String(write_client(alloc, &message)?))
-        }
-        "write_server" => {
-            let message = server_message(alloc, member(request, "value")?)?;
-            with(alloc, "text", Value::String(write_server(alloc, &message)?))
-        }
+        "read_client" => read_client_in(alloc, request),
+        "read_server" => read_server_in(alloc, request),
+        "write_client" => write_client_of(alloc, request),
+        "write_server" => write_server_of(alloc, request),
         _ => Err(Stop::Wrong),
     }
 }

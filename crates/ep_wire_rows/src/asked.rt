@@ -56,10 +56,14 @@ pub fn session(value: &Value, name: &str) -> Result<Session, Stop> {
     }
 }
 
+fn pool(alloc: Global, value: &Value) -> Result<Pool, Stop> {
+    Ok(Pool::from_json(alloc, member(value, "pool")?)?)
+}
+
 /// The change of a changeset with its pool.
 pub fn change(alloc: Global, value: &Value) -> Result<Change, Stop> {
     let changeset = units(alloc, value, "changeset")?;
-    let pool = Pool::from_json(alloc, member(value, "pool")?)?;
+    let pool = pool(alloc, value)?;
     Ok(read(alloc, &changeset, &pool)?)
 }
 
@@ -72,16 +76,26 @@ pub fn changes(alloc: Global, value: &Value, name: &str) -> Result<Listed<Change
     Ok(changes)
 }
 
-pub fn doc(alloc: Global, value: &Value) -> Result<Doc, Stop> {
+/// The change that makes a text with attributes.
+fn insertion(alloc: Global, value: &Value) -> Result<Change, Stop> {
     let text = units(alloc, value, "text")?;
     let attribs = units(alloc, value, "attribs")?;
-    let pool = Pool::from_json(alloc, member(value, "pool")?)?;
-    let change = read_attribs(alloc, &text, &attribs, &pool)?;
+    let pool = pool(alloc, value)?;
+    Ok(read_attribs(alloc, &text, &attribs, &pool)?)
+}
+
+/// The document that a change makes of none.
+fn made(alloc: Global, change: &Change) -> Result<Doc, Stop> {
     let empty = Doc::empty(alloc);
-    match fits(&empty, &change) {
-        Ok(()) => Ok(apply(alloc, &empty, &change)?),
+    match fits(&empty, change) {
+        Ok(()) => Ok(apply(alloc, &empty, change)?),
         Err(_) => Err(Stop::Wrong),
     }
+}
+
+pub fn doc(alloc: Global, value: &Value) -> Result<Doc, Stop> {
+    let change = insertion(alloc, value)?;
+    made(alloc, &change)
 }
 
 pub fn ids(alloc: Global, value: &Value, name: &str) -> Result<Listed<Units>, Stop> {

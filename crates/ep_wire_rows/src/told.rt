@@ -2,10 +2,10 @@
 
 use ep_apply::Doc;
 use ep_cs::Change;
-use ep_csread::{for_wire, print_attribs};
-use ep_message::session::session_text;
+use ep_csread::{Wire, for_wire, print_attribs};
 use ep_units::{NoMemory, Session, Units};
 use ep_wire::{ClientMsg, Listed, Resume, ServerMsg, Word};
+use ep_wire_words::session::session_text;
 use serde_json::{Map, Value};
 use std::alloc::Global;
 
@@ -47,12 +47,16 @@ impl Told {
         self.word(name, text.as_str())
     }
 
-    /// A changeset with its own pool.
-    fn change(&mut self, change: &Change) -> Result<(), NoMemory> {
-        let wire = for_wire(self.alloc, change)?;
-        self.units("changeset", &wire.text)?;
+    /// Operations with their own pool.
+    fn wire(&mut self, name: &str, wire: &Wire) -> Result<(), NoMemory> {
+        self.units(name, &wire.text)?;
         let pool = wire.pool.to_json(self.alloc)?;
         self.put("pool", pool)
+    }
+
+    fn change(&mut self, change: &Change) -> Result<(), NoMemory> {
+        let wire = for_wire(self.alloc, change)?;
+        self.wire("changeset", &wire)
     }
 
     fn resume(&mut self, resume: &Resume) -> Result<(), NoMemory> {
@@ -67,19 +71,26 @@ impl Told {
         }
     }
 
-    fn doc(&mut self, doc: &Doc) -> Result<(), NoMemory> {
-        let change = doc.as_insert(self.alloc)?;
-        let wire = print_attribs(self.alloc, &change)?;
-        self.units("attribs", &wire.text)?;
+    fn text(&mut self, doc: &Doc) -> Result<(), NoMemory> {
         let text = doc.text(self.alloc)?;
-        self.units("text", &text)?;
-        let pool = wire.pool.to_json(self.alloc)?;
-        self.put("pool", pool)
+        self.units("text", &text)
+    }
+
+    fn doc(&mut self, doc: &Doc) -> Result<(), NoMemory> {
+        let wire = attribs(self.alloc, doc)?;
+        self.wire("attribs", &wire)?;
+        self.text(doc)
     }
 
     fn object(self) -> Value {
         Value::Object(self.members)
     }
+}
+
+/// A document's attributes in wire form.
+fn attribs(alloc: Global, doc: &Doc) -> Result<Wire, NoMemory> {
+    let change = doc.as_insert(alloc)?;
+    print_attribs(alloc, &change)
 }
 
 fn change(alloc: Global, change: &Change) -> Result<Value, NoMemory> {
@@ -277,14 +288,19 @@ fn tell_pad(told: &mut Told, message: &ServerMsg) -> Result<(), NoMemory> {
     }
 }
 
-pub fn server_value(alloc: Global, message: &ServerMsg) -> Result<Value, NoMemory> {
-    let mut told = Told::nothing(alloc);
-    tell_revision(&mut told, message)?;
-    tell_resumption(&mut told, message)?;
-    tell_pad(&mut told, message)?;
+fn tell_server(told: &mut Told, message: &ServerMsg) -> Result<(), NoMemory> {
+    tell_revision(told, message)?;
+    tell_resumption(told, message)?;
+    tell_pad(told, message)?;
     if let ServerMsg::Closing(why) = message {
         told.word("kind", "Closing")?;
         told.word("word", word(*why))?;
     }
+    Ok(())
+}
+
+pub fn server_value(alloc: Global, message: &ServerMsg) -> Result<Value, NoMemory> {
+    let mut told = Told::nothing(alloc);
+    tell_server(&mut told, message)?;
     Ok(told.object())
 }

@@ -92,7 +92,7 @@ settled-then : (kept : Bool) (t new : MachineState) → IsThen t new → (settle
 settled-then true t new h = ap (λ (x : MachineState). told_from x.pad x.pending) h.0
 settled-then false t new h = ap (λ (x : MachineState). x.pad) h.0
 
-settled-records : (kept : Bool) (st : MachineState) → st.pending ≡ [] → (settled kept st).records ≡ st.records
+pub settled-records : (kept : Bool) (st : MachineState) → st.pending ≡ [] → (settled kept st).records ≡ st.records
 settled-records true st e = ap (λ rs. st.records ++ rs) e ∙ append-nil st.records
 settled-records false st e = refl
 
@@ -171,7 +171,7 @@ module _ (st : MachineState) (s : Session) (now : ℕ) (msg : Message) where
           (subst (λ can. (turned can None).state.records ≡ st.records ++ q ∷ []) i
           (subst (λ (x : Option PadBad). (turned (is_edit msg.change.edit) x).state.records ≡ st.records ++ q ∷ []) h e))
 
-  step-settles : (reply : Reply) (new : MachineState) → is_edit msg.change.edit ≡ true → IsKeptState st → st.is_open ≡ true
+  pub step-settles : (reply : Reply) (new : MachineState) → is_edit msg.change.edit ≡ true → IsKeptState st → st.is_open ≡ true
       → IsOpenStep size st (Accept s msg.base msg.change now) reply new → (kept : Bool) → SettlesTo kept new
   step-settles reply new i k o step kept = go step kept
     where
@@ -268,7 +268,7 @@ nothing-broken rs pad now x k e =
     go (Some y) h = broken y k h
 
 -- the number of the opening is that of the pad before
-opening-off : (pad : PadState) (s : Session) (now : ℕ) (msg : Message) (b : Bool) → opening (broken_off pad s now msg b) ≡ opening pad
+pub opening-off : (pad : PadState) (s : Session) (now : ℕ) (msg : Message) (b : Bool) → opening (broken_off pad s now msg b) ≡ opening pad
 opening-off pad s now msg false = refl
 opening-off pad s now msg true = go (reason pad s msg)
   where
@@ -450,7 +450,7 @@ module _ {D : Type 0} (told_by : D → Option Contents) (failures : D → ℕ) (
       )
 
   -- an open machine is awake
-  awake : (st mid : MachineState) → st.is_open ≡ true → IsWoken st mid → mid ≡ st
+  pub awake : (st mid : MachineState) → st.is_open ≡ true → IsWoken st mid → mid ≡ st
   awake st mid o (Was on is) = is
   awake st mid o (Opened kept off fits t) = absurd (let e : true ≡ false = sym o ∙ off in cc)
 

@@ -1,6 +1,6 @@
 -- What events lead to is what some events of the rules lead to.
-use Rattle.std.specs.Prelude.{IsSome}
-use Rattle.std.proofs.Common.{◌≡◌, inl, inr, ℕ, Bool, List, [], ◌∷◌, ◌++◌, Option, Some, None, Ok, Err, refl, sym, ap, ◌∙◌, subst}
+use Rattle.std.specs.Prelude.{IsSome, ◌&&◌}
+use Rattle.std.proofs.Common.{◌≡◌, inl, inr, ℕ, Bool, true, false, List, [], ◌∷◌, ◌++◌, Option, Some, None, Ok, Err, refl, sym, ap, ◌∙◌, subst}
 use Rattle.ep_units.specs.Text.{Text}
 use Rattle.ep_outside.specs.Disk.{Contents}
 use Rattle.ep_outside.specs.declared.limits.Limits.{Limits}
@@ -15,9 +15,9 @@ use Rattle.ep_event.specs.declared.event.Event.{Event as Told}
 use Rattle.ep_event.specs.declared.shown.Shown.{Shown}
 use Rattle.ep_world.specs.declared.bad.WorldBad.TheVariants as world_bad
 use Rattle.ep_world.specs.declared.world.World.{World}
-use Rattle.ep_world.specs.Events.{event_at, happened, kept_happened}
+use Rattle.ep_world.specs.Events.{event_at, happened, has_text, is_known, kept_happened}
 use Rattle.ep_world.specs.Journal.{begun, journal_after}
-use Rattle.ep_world.specs.Leading.{Becomes, IsScheduled, Lead, Stays}
+use Rattle.ep_world.specs.Leading.{Becomes, BecomesIf, IsScheduled, Lead, Stays}
 use Rattle.ep_world.specs.Standing.{IsPlayed, IsRun, Plays, StandsFor, overfull_at}
 use Rattle.ep_world.specs.Standing.IsPlayed.{IsEvent, HasNoRoom}
 use Rattle.ep_history.specs.declared.record.Record.{Record}
@@ -80,46 +80,67 @@ leads-more alone rs w ks [] qs v js e o ps l b = (
 )
 leads-more alone rs w ks (x ∷ es) qs v js e o ps l b = (l.0, l.1, l.2, leads-more alone l.1 (happened w l.0) (kept_happened w ks l.0) es qs v js e o ps l.3 b)
 
+-- an event is played where somebody of its kind has the name and it brings a text
+is-played : (w : WorldState) (e : Told) → is_known w e ≡ true → has_text e ≡ true → is_known w e && has_text e ≡ true
+is-played w e k t = ap (λ b. b && has_text e) k ∙ t
+
+becomes-played : (alone : Bool) (rs : List Record) (w : WorldState) (e : ℕ × Told) (o : Option Event) (qs : List Record) → is_known w e.1 && has_text e.1 ≡ true → BecomesIf true alone rs w e o qs
+    → Becomes alone rs w e o qs
+becomes-played alone rs w e o qs p b = subst (λ t. BecomesIf t alone rs w e o qs) (sym p) b
+
+becomes-nothing : (alone : Bool) (rs : List Record) (w : WorldState) (e : ℕ × Told) → is_known w e.1 && has_text e.1 ≡ false → Becomes alone rs w e None rs
+becomes-nothing alone rs w e p = subst (λ t. BecomesIf t alone rs w e None rs) (sym p) (refl, refl)
+
+textless : (b : Bool) (e : Told) → has_text e ≡ false → b && has_text e ≡ false
+textless true e t = t
+textless false e t = refl
+
 module _ {D : Type 0} (told_by : D → Option Contents) (failures : D → ℕ) (stops_alone : D → Bool) (alone : Bool) where
   -- an event that is played, or isn't
   played : (new : World D) (first w : WorldState) (ks : Kepts) (rs : List Record) (es : List (ℕ × Told)) (e : ℕ × Told) (shown : Shown) → Lead alone begun first nobodies es rs w ks → IsRun w ks
-      → IsPlayed told_by failures stops_alone alone rs w ks e.0 e.1 new shown → Stays told_by failures stops_alone alone new first (es ++ e ∷ [])
-  played new first w ks rs es e shown l r (IsEvent kept h room d s) =
+      → is_known w e.1 && has_text e.1 ≡ true → IsPlayed told_by failures stops_alone alone rs w ks e.0 e.1 new shown → Stays told_by failures stops_alone alone new first (es ++ e ∷ [])
+  played new first w ks rs es e shown l r p (IsEvent kept h room d s) =
       let o = event_at w e.0 kept e.1 in
       let qs = journal_after rs w e.0 kept e.1 in
       record {
         journal = qs;
         world = happened w o;
         kepts = kept_happened w ks o;
-        leads = leads-more alone begun first nobodies es rs w ks e o qs l (inl (kept, refl, room, d, refl));
+        leads = leads-more alone begun first nobodies es rs w ks e o qs l (becomes-played alone rs w e o qs p (inl (kept, refl, room, d, refl)));
         run = more w ks o r;
         stands = s;
       }
-  played new first w ks rs es e shown l r (HasNoRoom h s) =
+  played new first w ks rs es e shown l r p (HasNoRoom h s) =
       let o = overfull_at e.1 in
       record {
         journal = rs;
         world = happened w o;
         kepts = kept_happened w ks o;
-        leads = leads-more alone begun first nobodies es rs w ks e o rs l (inr (inr (refl, subst IsSome (sym h) refl, refl)));
+        leads = leads-more alone begun first nobodies es rs w ks e o rs l (becomes-played alone rs w e o rs p (inr (refl, subst IsSome (sym h) refl, refl)));
         run = more w ks o r;
         stands = s;
       }
 
   pub stays : (old new : World D) (first : WorldState) (es : List (ℕ × Told)) (e : ℕ × Told) (shown : Shown) → Stays told_by failures stops_alone alone old first es
       → Plays told_by failures stops_alone old e.0 e.1 (Ok shown) new → Stays told_by failures stops_alone alone new first (es ++ e ∷ [])
-  stays old new first es e shown s p = played new first s.world s.kepts s.journal es e shown s.leads s.run (p alone s.journal s.world s.kepts s.run s.stands).2
+  stays old new first es e shown s p =
+      let c = p alone s.journal s.world s.kepts s.run s.stands in
+      played new first s.world s.kepts s.journal es e shown s.leads s.run (is-played s.world e.1 c.0 c.1) c.2
 
   -- one that isn't played, for which the world stands as before
   pub passes : (new : World D) (first w : WorldState) (ks : Kepts) (rs : List Record) (es : List (ℕ × Told)) (e : ℕ × Told) → Lead alone begun first nobodies es rs w ks → IsRun w ks
-      → StandsFor told_by failures stops_alone alone rs new w ks → Stays told_by failures stops_alone alone new first (es ++ e ∷ [])
-  passes new first w ks rs es e l r s =
-      record { journal = rs; world = w; kepts = ks; leads = leads-more alone begun first nobodies es rs w ks e None rs l (inr (inl (refl, refl))); run = r; stands = s }
+      → is_known w e.1 && has_text e.1 ≡ false → StandsFor told_by failures stops_alone alone rs new w ks → Stays told_by failures stops_alone alone new first (es ++ e ∷ [])
+  passes new first w ks rs es e l r p s =
+      record { journal = rs; world = w; kepts = ks; leads = leads-more alone begun first nobodies es rs w ks e None rs l (becomes-nothing alone rs w e p); run = r; stands = s }
 
   pub unknown : (old new : World D) (first : WorldState) (es : List (ℕ × Told)) (e : ℕ × Told) → Stays told_by failures stops_alone alone old first es
       → Plays told_by failures stops_alone old e.0 e.1 (Err world_bad.Unknown) new → Stays told_by failures stops_alone alone new first (es ++ e ∷ [])
-  unknown old new first es e s p = passes new first s.world s.kepts s.journal es e s.leads s.run (p alone s.journal s.world s.kepts s.run s.stands).1
+  unknown old new first es e s p =
+      let c = p alone s.journal s.world s.kepts s.run s.stands in
+      passes new first s.world s.kepts s.journal es e s.leads s.run (ap (λ b. b && has_text e.1) c.0) c.1
 
   pub no-text : (old new : World D) (first : WorldState) (es : List (ℕ × Told)) (e : ℕ × Told) → Stays told_by failures stops_alone alone old first es
       → Plays told_by failures stops_alone old e.0 e.1 (Err world_bad.NoText) new → Stays told_by failures stops_alone alone new first (es ++ e ∷ [])
-  no-text old new first es e s p = passes new first s.world s.kepts s.journal es e s.leads s.run (p alone s.journal s.world s.kepts s.run s.stands).1
+  no-text old new first es e s p =
+      let c = p alone s.journal s.world s.kepts s.run s.stands in
+      passes new first s.world s.kepts s.journal es e s.leads s.run (textless (is_known s.world e.1) e.1 c.0) c.1

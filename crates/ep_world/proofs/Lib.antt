@@ -17,3 +17,6 @@ pub mod Turns
 pub mod Sends
 pub mod Hears
 pub mod Lates
+pub mod Counting
+pub mod Refusing
+pub mod Ending

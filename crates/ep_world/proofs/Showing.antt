@@ -24,6 +24,7 @@ use Rattle.ep_schedule.specs.World.{Name, Actor as AnActor, Member as AMember, W
 use Rattle.ep_schedule.specs.World.Actor.{Nobody, Guest, Named}
 use Rattle.ep_pad.specs.Held.{Held}
 use Rattle.ep_pad.specs.Standing.{replied}
+use Rattle.ep_pad_file.specs.Standing.{Holds}
 use Rattle.ep_pad_state.specs.Answering.{status_of}
 use Rattle.ep_pad_state.specs.declared.answers.PadStatus.{PadStatus}
 use Rattle.ep_event.specs.declared.shown.Shown.{Shown}
@@ -34,7 +35,6 @@ use Rattle.ep_world.specs.declared.bad.WorldBad.TheVariants as world_bad
 use Rattle.ep_world.specs.declared.world.World.{World}
 use Rattle.ep_world.specs.Actors.{actor_of, found}
 use Rattle.ep_world.specs.Events.{of_client, view_of}
-use Rattle.ep_world.specs.Failing.{IsFailure}
 use Rattle.ep_world.specs.Reading.{ShowsClient, ShowsPad, TellsHead, client_kept, head_there}
 use Rattle.ep_world.specs.Shows.{shows_client, shows_head, shows_marks, shows_text, shows_text_if, shows_view, shows_view_marks, state_of}
 use Rattle.ep_world.specs.Journal.{behind, record_in}
@@ -108,10 +108,10 @@ shows-client-marks w ks n k run e =
     ap (of_client None (λ m. Some (shown.ViewMarks n (view_of w.pad m)))) s.is ∙ ap (λ d. Some (shown.ViewMarks n d)) (sym s.keeps.view)
 
 -- what is shown, or fails
-pub shows-result : (o : Option Shown) (s : Shown) (r : Result Shown WorldBad) → o ≡ Some s → IfOk r (λ x. x ≡ s) → IfErr r IsFailure → ShowsClient o r
+pub shows-result : (o : Option Shown) (s : Shown) (r : Result Shown WorldBad) → o ≡ Some s → IfOk r (λ x. x ≡ s) → IfErr r (λ b. b ≡ world_bad.NoMemory) → ShowsClient o r
 shows-result o s r e h f = subst (λ y. ShowsClient y r) (sym e) (go r h f)
   where
-    go : (r : Result Shown WorldBad) → IfOk r (λ x. x ≡ s) → IfErr r IsFailure → ShowsClient (Some s) r
+    go : (r : Result Shown WorldBad) → IfOk r (λ x. x ≡ s) → IfErr r (λ b. b ≡ world_bad.NoMemory) → ShowsClient (Some s) r
     go (Ok x) h f = h
     go (Err b) h f = f
 
@@ -236,24 +236,30 @@ module _ {D : Type 0} (told_by : D → Option Contents) (failures : D → ℕ) (
       )
 
   -- a revision is shown, and nothing else of the world changed
-  pub text-shows : (old new : World D) (w : WorldState) (ks : Kepts) (r : ℕ) (doc : Doc) → StandsFor told_by failures stops_alone alone rs old w ks
+  pub text-shows : (before : ℕ) (old new : World D) (w : WorldState) (ks : Kepts) (r : ℕ) (doc : Doc) → StandsFor told_by failures stops_alone alone rs old w ks
       → IsAnswered told_by failures stops_alone alone rs old.machine w.pad (ReadText (Some r)) (Ok (TextAnswer doc)) new.machine → new.id ≡ old.id → new.actors ≡ old.actors
-      → ShowsPad told_by failures stops_alone alone rs w ks (shows_text w.pad r) (Ok (shown.Text r doc)) new
-  text-shows old new w ks r doc s a i e =
+      → ShowsPad told_by failures stops_alone alone rs before w ks (shows_text w.pad r) (Ok (shown.Text r doc)) new
+  text-shows before old new w ks r doc s a i e =
       let t = text-told old.machine new.machine w.pad (Some r) doc a in
       let f = text-free w.pad.present (nat_lt (head (newest w.pad)) r) (head (newest w.pad)) t.0 in
       (ap (shown.Text r) t.1 ∙ sym (text-shown w.pad r f.0 f.1), reads-stands old new w ks s t.2 i e)
 
-  pub gone-text-shows : (old new : World D) (w : WorldState) (ks : Kepts) (r : ℕ) → StandsFor told_by failures stops_alone alone rs old w ks
+  pub gone-text-shows : (before : ℕ) (old new : World D) (w : WorldState) (ks : Kepts) (r : ℕ) → StandsFor told_by failures stops_alone alone rs old w ks
       → IsAnswered told_by failures stops_alone alone rs old.machine w.pad (ReadText (Some r)) (Err bad.Gone) new.machine → new.id ≡ old.id → new.actors ≡ old.actors
-      → ShowsPad told_by failures stops_alone alone rs w ks (shows_text w.pad r) (Ok (shown.TextGone r)) new
-  gone-text-shows old new w ks r s a i e =
+      → ShowsPad told_by failures stops_alone alone rs before w ks (shows_text w.pad r) (Ok (shown.TextGone r)) new
+  gone-text-shows before old new w ks r s a i e =
       let f = text-gone w.pad.present (nat_lt (head (newest w.pad)) r) (head (newest w.pad)) (unless-refuses-answer (text_fault w.pad (Some r)) _ _ bad.Gone a.0) in
       (sym (ap (IfThere w.pad r) f), reads-stands old new w ks s a.1 i e)
 
-  pub no-rev-shows : (old new : World D) (w : WorldState) (ks : Kepts) (r h : ℕ) → StandsFor told_by failures stops_alone alone rs old w ks
+  pub no-rev-shows : (before : ℕ) (old new : World D) (w : WorldState) (ks : Kepts) (r h : ℕ) → StandsFor told_by failures stops_alone alone rs old w ks
       → IsAnswered told_by failures stops_alone alone rs old.machine w.pad (ReadText (Some r)) (Err (bad.NoRev h)) new.machine → new.id ≡ old.id → new.actors ≡ old.actors
-      → ShowsPad told_by failures stops_alone alone rs w ks (shows_text w.pad r) (Ok (shown.NoRev r h)) new
-  no-rev-shows old new w ks r h s a i e =
+      → ShowsPad told_by failures stops_alone alone rs before w ks (shows_text w.pad r) (Ok (shown.NoRev r h)) new
+  no-rev-shows before old new w ks r h s a i e =
       let f = text-none w.pad.present (nat_lt (head (newest w.pad)) r) (head (newest w.pad)) h (unless-refuses-answer (text_fault w.pad (Some r)) _ _ (bad.NoRev h) a.0) in
       (ap (shown.NoRev r) f.2 ∙ sym (none-shown w.pad r f.0 f.1), reads-stands old new w ks s a.1 i e)
+
+  -- the machine for which the world stands, whose file has the records
+  pub lends : (world : World D) (w : WorldState) (ks : Kepts) → StandsFor told_by failures stops_alone alone rs world w ks
+      → IsAt told_by failures stops_alone alone rs world.machine w.pad × Holds (told_by world.machine.disk) rs
+  lends world w ks s =
+      let m = s.machine in (m, subst (Holds (told_by world.machine.disk)) m.records (m.stands.open_has (sym m.stands.is_open ∙ m.is_open)).holds)

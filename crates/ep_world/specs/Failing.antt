@@ -1,8 +1,9 @@
 -- What ends a world.
-use Rattle.std.specs.Prelude.{Option, Result, Ok, Err}
+use Rattle.std.specs.Prelude.{ℕ, Option, Result, Ok, Err}
 use Rattle.ep_history.specs.declared.pad_bad.PadBad.{PadBad}
 use Rattle.ep_history.specs.declared.pad_bad.PadBad.TheVariants as bad
 use Rattle.ep_schedule.specs.World.{Name}
+use Rattle.ep_pad.specs.Opening.{HasRisenTo}
 use Rattle.ep_event.specs.declared.shown.Reason.TheVariants as why
 use Rattle.ep_event.specs.declared.shown.Shown.{Shown}
 use Rattle.ep_event.specs.declared.shown.Shown.TheVariants as shown
@@ -29,3 +30,9 @@ IsFailure world_bad.NoText = ⊥
 IsFailure (world_bad.Full n) = Unit {0}
 IsFailure (world_bad.Store n) = Unit {0}
 IsFailure world_bad.NoMemory = Unit {0}
+
+-- Its cause, of a call that opens no machine: the store failed, and its count of faults rose to this; or memory is wanting.
+abbrev pub IsCaused : ℕ → ℕ → WorldBad → Type 0
+IsCaused before now (world_bad.Store n) = HasRisenTo before now n
+IsCaused before now (world_bad.Full n) = ⊥
+IsCaused before now b = Unit {0}

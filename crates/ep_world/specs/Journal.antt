@@ -103,7 +103,17 @@ shows_full e (Some b) = no_room e b
 abbrev pub full_at : List Record → WorldState → ℕ → Told → Option Shown
 full_at rs w now e = shows_full e (full_by rs w.pad (record_at w now e))
 
--- ---- a crash within a take
+-- ---- a crash
+
+-- the record of the opening behind these would be too long, by itself or with them, and have so many bytes
+abbrev pub IsOpeningFull : List Record → PadState → ℕ → Type 0
+IsOpeningFull rs pad n = full_by rs pad (Some (opening pad)) ≡ Some (bad.JournalFull n)
+
+-- a crash whose opening the journal has no room for; within a take, behind the record of that where it is kept
+abbrev pub LacksOpening : List Record → WorldState → ℕ → Told → ℕ → Type 0
+LacksOpening rs w now (told.Stop None) n = IsOpeningFull rs w.pad n
+LacksOpening rs w now (told.Stop (Some at)) n = (kept : Bool) × IsOpeningFull (behind rs (kept_record kept (record_taken w.pad now (next_up (w.actors at.name))))) w.pad n
+LacksOpening rs w now e n = ⊥
 
 -- The disk keeps the record of a take that makes so many device calls, in the image that is asked for; where the journal has
 -- room for it.

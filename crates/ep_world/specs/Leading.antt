@@ -1,24 +1,28 @@
 -- Which worlds the events of a script lead to.
-use Rattle.std.specs.Prelude.{◌≡◌, ◌⊎◌, ℕ, Bool, true, List, [], ◌∷◌, Option, None, IsSome}
+use Rattle.std.specs.Prelude.{◌≡◌, ◌⊎◌, ℕ, Bool, true, false, ◌&&◌, List, [], ◌∷◌, Option, None, IsSome}
 use Rattle.ep_schedule.specs.World.{WorldState, Event}
 use Rattle.ep_schedule.specs.Kepts.{Kepts, AreKept, AreSubmittedAlike, nobodies}
 use Rattle.ep_schedule.specs.Headline.{Headline}
 use Rattle.ep_schedule.specs.Hearing.{AreDue}
 use Rattle.ep_event.specs.declared.event.Event.{Event as Told}
-use Rattle.ep_world.specs.Events.{event_at, happened, kept_happened}
+use Rattle.ep_world.specs.Events.{event_at, happened, has_text, is_known, kept_happened}
 use Rattle.ep_world.specs.Journal.{Decides, begun, full_at, journal_after}
 use Rattle.ep_world.specs.Standing.{IsRun, StandsFor, overfull_at}
 use Rattle.ep_world.specs.declared.world.World.{World}
 use Rattle.ep_outside.specs.Disk.{Contents}
 use Rattle.ep_history.specs.declared.record.Record.{Record}
 
--- what comes of an event at a moment, and the journal then: what it asks for, which is recorded; nothing where it isn't
--- played; or what a journal without room makes of it. Of a crash within a take the image that is asked for decides, where the
--- disk fails in a stop alone.
-abbrev pub Becomes : Bool → List Record → WorldState → ℕ × Told → Option Event → List Record → Type 0
-Becomes alone rs w e o qs =
+-- What comes of an event at a moment, and the journal then. It is played where somebody of its kind has the name and what it
+-- brings is a text: what it asks for happens and is recorded, or else what a journal without room makes of it does. Of a crash
+-- within a take the image that is asked for decides, where the disk fails in a stop alone.
+abbrev pub BecomesIf : Bool → Bool → List Record → WorldState → ℕ × Told → Option Event → List Record → Type 0
+BecomesIf true alone rs w e o qs =
     ((kept : Bool) × (o ≡ event_at w e.0 kept e.1) × (full_at rs w e.0 e.1 ≡ None) × (alone ≡ true → Decides rs w e.0 e.1 kept) × (qs ≡ journal_after rs w e.0 kept e.1))
-    ⊎ (((o ≡ None) × (qs ≡ rs)) ⊎ ((o ≡ overfull_at e.1) × IsSome (full_at rs w e.0 e.1) × (qs ≡ rs)))
+    ⊎ ((o ≡ overfull_at e.1) × IsSome (full_at rs w e.0 e.1) × (qs ≡ rs))
+BecomesIf false alone rs w e o qs = (o ≡ None) × (qs ≡ rs)
+
+abbrev pub Becomes : Bool → List Record → WorldState → ℕ × Told → Option Event → List Record → Type 0
+Becomes alone rs w e o qs = BecomesIf (is_known w e.1 && has_text e.1) alone rs w e o qs
 
 -- these events, each with its moment, lead from one journal and world to another
 abbrev pub Lead : Bool → List Record → WorldState → Kepts → List (ℕ × Told) → List Record → WorldState → Kepts → Type 0

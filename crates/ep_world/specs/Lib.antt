@@ -1,4 +1,5 @@
 pub mod Failing
+pub mod Counting
 pub mod Conns
 pub mod Actors
 pub mod Events
@@ -12,4 +13,5 @@ pub mod Members
 pub mod Stopping
 pub mod Entering
 pub mod Leading
+pub mod Late
 pub mod Reading

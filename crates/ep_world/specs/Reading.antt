@@ -13,7 +13,7 @@ use Rattle.ep_world.specs.declared.bad.WorldBad.{WorldBad}
 use Rattle.ep_world.specs.declared.bad.WorldBad.TheVariants as world_bad
 use Rattle.ep_world.specs.declared.world.World.{World}
 use Rattle.ep_world.specs.Events.{of_client}
-use Rattle.ep_world.specs.Failing.{IsFailure}
+use Rattle.ep_world.specs.Failing.{IsCaused, IsFailure}
 use Rattle.ep_world.specs.Standing.{IsAt, StandsFor}
 use Rattle.ep_history.specs.declared.record.Record.{Record}
 
@@ -25,7 +25,7 @@ client_kept w ks n = of_client None (λ m. Some (ks n)) (w.actors n)
 abbrev pub ShowsClient : Option Shown → Result Shown WorldBad → Type 0
 ShowsClient None r = r ≡ Err world_bad.Unknown
 ShowsClient (Some s) (Ok x) = x ≡ s
-ShowsClient (Some s) (Err b) = IsFailure b
+ShowsClient (Some s) (Err b) = b ≡ world_bad.NoMemory
 
 -- the head with its document, where the pad is there
 abbrev pub head_there : PadState → Option (ℕ × Doc)
@@ -36,6 +36,7 @@ module _ {D : Type 0} (told_by : D → Option Contents) (failures : D → ℕ) (
   abbrev pub TellsHead : PadState → Result (Option (ℕ × Doc)) WorldBad → Held D → Type 0
   TellsHead pad r new = MatchResult r (λ x. (x ≡ head_there pad) × IsAt told_by failures stops_alone alone rs new pad) IsFailure
 
-  -- just this is shown of the pad, and the world stands as before; or it ends
-  abbrev pub ShowsPad : WorldState → Kepts → Shown → Result Shown WorldBad → World D → Type 0
-  ShowsPad w ks s r new = MatchResult r (λ x. (x ≡ s) × StandsFor told_by failures stops_alone alone rs new w ks) IsFailure
+  -- just this is shown of the pad, and the world stands as before; or it ends for its cause, by its disk's count of faults before
+  abbrev pub ShowsPad : ℕ → WorldState → Kepts → Shown → Result Shown WorldBad → World D → Type 0
+  ShowsPad before w ks s r new =
+      MatchResult r (λ x. (x ≡ s) × StandsFor told_by failures stops_alone alone rs new w ks) (λ b. IsFailure b × IsCaused before (failures new.machine.disk) b)

@@ -1,5 +1,5 @@
 -- For which worlds of the rules a world in code stands, and what its calls come to there.
-use Rattle.std.specs.Prelude.{◌≡◌, ◌⊎◌, ℕ, Bool, true, false, List, Option, Some, None, Result, Ok, Err}
+use Rattle.std.specs.Prelude.{◌≡◌, ◌⊎◌, ℕ, Bool, true, false, List, [], Option, Some, None, Result, Ok, Err, IfErr}
 use Rattle.ep_units.specs.Text.{Text, text_eq}
 use Rattle.ep_outside.specs.Disk.{Contents}
 use Rattle.ep_outside.specs.declared.limits.Limits.{Limits}
@@ -10,10 +10,13 @@ use Rattle.ep_history.specs.Pad.{PadState}
 use Rattle.ep_history.specs.declared.pad_bad.PadBad.{PadBad}
 use Rattle.ep_history.specs.declared.pad_bad.PadBad.TheVariants as bad
 use Rattle.ep_history.specs.declared.record.Record.{Record}
+use Rattle.ep_history.specs.declared.record.Record.TheVariants as record_of
 use Rattle.ep_schedule.specs.World.{Name, WorldState, Event, start, run}
 use Rattle.ep_schedule.specs.World.Event.{Lose, Overfull}
 use Rattle.ep_schedule.specs.Kepts.{Kepts, nobodies, run_kept}
 use Rattle.ep_pad.specs.Held.{Held}
+use Rattle.ep_pad.specs.Opening.{HasRisenTo}
+use Rattle.ep_pad_file.specs.Standing.{MayHold}
 use Rattle.ep_pad.specs.Standing.{Stands}
 use Rattle.ep_event.specs.declared.event.Event.{Event as Told}
 use Rattle.ep_event.specs.declared.event.Event.TheVariants as told
@@ -23,7 +26,7 @@ use Rattle.ep_world.specs.declared.bad.WorldBad.TheVariants as world_bad
 use Rattle.ep_world.specs.Actors.{AreActors, actor_of, found}
 use Rattle.ep_world.specs.Events.{event_at, happened, kept_happened, is_known, has_text}
 use Rattle.ep_world.specs.declared.world.World.{World}
-use Rattle.ep_world.specs.Journal.{Decides, behind, full_at, full_by, journal_after, record_in}
+use Rattle.ep_world.specs.Journal.{Decides, LacksOpening, behind, full_at, full_by, journal_after, record_in}
 use Rattle.ep_world.specs.Shows.{shows}
 
 -- ---- runs
@@ -125,3 +128,33 @@ module _ {D : Type 0} (told_by : D → Option Contents) (failures : D → ℕ) (
   Plays old now e result new =
       (alone : Bool) (rs : List Record) (w : WorldState) (ks : Kepts) → IsRun w ks → StandsFor told_by failures stops_alone alone rs old w ks
       → Comes told_by failures stops_alone alone rs w ks now e new result
+
+-- ---- what ends a world
+
+-- of a crash within a take it is said over a disk that fails in a stop alone, and over no other
+abbrev pub Said : Bool → Told → Type 0 → Type 0
+Said alone (told.Stop (Some at)) p = alone ≡ true → p
+Said alone e p = p
+
+-- Why an event ends a world, by the counts of its disk's faults before and behind it: the store failed, and its count rose
+-- to this; or the journal has no room for the opening that follows a crash; or memory is wanting.
+abbrev pub IsEnded : Bool → List Record → WorldState → ℕ → Told → ℕ → ℕ → WorldBad → Type 0
+IsEnded alone rs w now e before after (world_bad.Store n) = Said alone e (HasRisenTo before after n)
+IsEnded alone rs w now e before after (world_bad.Full n) = Said alone e (LacksOpening rs w now e n)
+IsEnded alone rs w now e before after b = Unit {0}
+
+-- why no world begins on a disk: the disk, when it was dropped, had failed, and its count had risen to this; or the journal,
+-- where nothing was left on the disk, has no room for the first opening; or memory is wanting
+abbrev pub IsUnbegun : {D : Type 0} → (D → Option Contents) → (D → ℕ) → D → Limits → Text → WorldBad → Type 0
+IsUnbegun {D} told_by failures disk limits id (world_bad.Store n) = (back : D) × HasRisenTo (failures disk) (failures back) n
+IsUnbegun {D} told_by failures disk limits id (world_bad.Full n) = MayHold (told_by disk) [] [] → full_by [] (start limits id).pad (Some (record_of.Open 1)) ≡ Some (bad.JournalFull n)
+IsUnbegun {D} told_by failures disk limits id world_bad.NoMemory = Unit {0}
+IsUnbegun {D} told_by failures disk limits id world_bad.Unknown = ⊥
+IsUnbegun {D} told_by failures disk limits id world_bad.NoText = ⊥
+
+module _ {D : Type 0} (told_by : D → Option Contents) (failures : D → ℕ) (stops_alone : D → Bool) where
+  -- of each world for which it stood
+  abbrev pub Ends : World D → ℕ → Told → Result Shown WorldBad → World D → Type 0
+  Ends old now e result new =
+      (alone : Bool) (rs : List Record) (w : WorldState) (ks : Kepts) → IsRun w ks → StandsFor told_by failures stops_alone alone rs old w ks
+      → IfErr result (IsEnded alone rs w now e (failures old.machine.disk) (failures new.machine.disk))

@@ -17,8 +17,8 @@ use Rattle.ep_world.specs.declared.bad.WorldBad.TheVariants as world_bad
 use Rattle.ep_world.specs.declared.message.Sent.{Sent}
 use Rattle.ep_world.specs.Actors.{IsSame, PutsActor, found}
 use Rattle.ep_world.specs.Conns.{KeptConn, TakesUp, sent_of}
-use Rattle.ep_world.specs.Failing.{IsFailure}
-use Rattle.ep_world.specs.Journal.{behind, kept_record, keeps_record, record_taken}
+use Rattle.ep_pad.specs.Opening.{HasRisenTo}
+use Rattle.ep_world.specs.Journal.{IsOpeningFull, behind, kept_record, keeps_record, record_taken}
 use Rattle.ep_world.specs.Standing.{IsAt}
 use Rattle.ep_history.specs.declared.record.Record.{Record}
 
@@ -42,7 +42,7 @@ FindsFirst old n (Ok x) new =
     (a : Actor) × (b : Actor) × (found old n ≡ Some a) × TakesFirst a x b
     × PutsActor old n b new
 FindsFirst old n (Err world_bad.Unknown) new = (found old n ≡ None) × IsSame old new
-FindsFirst old n (Err b) new = IsFailure b
+FindsFirst old n (Err b) new = b ≡ world_bad.NoMemory
 
 -- ---- the pad
 
@@ -67,6 +67,18 @@ taken_of x = (x.0, sent_of x.1)
 -- the pad's journal behind it, and an opening
 abbrev pub journal_broken : List Record → PadState → ℕ → Option (Session × Message) → Bool → List Record
 journal_broken rs pad now x kept = behind rs (kept_record kept (record_taken pad now x)) ++ opening pad ∷ []
+
+-- a machine isn't opened again behind these records: the store failed, the journal has no room for the opening, or memory is
+-- wanting
+abbrev pub IsUnopened : ℕ → ℕ → List Record → PadState → WorldBad → Type 0
+IsUnopened before after rs pad (world_bad.Store n) = HasRisenTo before after n
+IsUnopened before after rs pad (world_bad.Full n) = IsOpeningFull rs pad n
+IsUnopened before after rs pad b = Unit {0}
+
+-- nor behind a take that was broken off; of a disk that fails otherwise than in a stop nothing is said
+abbrev pub BreaksNot : Bool → List Record → PadState → ℕ → Option (Session × Message) → ℕ → ℕ → WorldBad → Type 0
+BreaksNot alone rs pad now first before after b =
+    alone ≡ true → (kept : Bool) × IsUnopened before after (behind rs (kept_record kept (record_taken pad now first))) pad b
 
 module _ {D : Type 0} (told_by : D → Option Contents) (failures : D → ℕ) (stops_alone : D → Bool) (alone : Bool) where
   -- a machine that was started again is open; what a record that was pending came to, the disk decided

@@ -1,14 +1,18 @@
 //! Who takes part, by name.
 
-ghost use Rattle.std.specs.Prelude.{◌≡◌, true, [], if◌then◌else◌, ◌≢◌, Option, Some, None, OnOk, IfOk, IfErr, position};
+ghost use Rattle.std.specs.Prelude.{◌≡◌, true, [], if◌then◌else◌, ◌≢◌, Bool, List, Option, Some, None, OnOk, IfOk, IfErr, position};
 ghost use Rattle.std.specs.Option.{option_map};
 ghost use Rattle.ep_units.specs.Text.{Text, text_eq};
 ghost use Rattle.ep_history.specs.Kept.{KeptClient};
 ghost use Rattle.ep_world.specs.Actors.{found, kept_cut_off, is_a_client, is_a_guest, IsNoClient, IsSame, IsWithout, PutsActor, Steps, StepsAt};
+ghost use Rattle.ep_world.specs.Counting.{Counts};
 ghost use Rattle.ep_local.specs.Local.{is_local_text};
 ghost use Rattle.ep_world.specs.Failing.{IsFailure};
 ghost use Rattle.ep_world.specs.Members.{HearsDown, SubmitsUp};
 ghost use Rattle.ep_world.specs.Pushing.{Tells};
+ghost use Rattle.ep_world.specs.Standing.{IsAt};
+ghost use Rattle.ep_history.specs.Pad.{PadState};
+ghost use Rattle.ep_history.specs.declared.record.Record.{Record};
 ghost use Rattle.ep_local.specs.Makes.{EditsView};
 ghost use Rattle.ep_world.specs.declared.member.Member.{Member as AMember};
 ghost use Rattle.ep_world.specs.declared.actors.Actor.TheVariants as actor;
@@ -203,6 +207,7 @@ impl Actors {
         ensures told { IfOk result (λ p. (m : AMember) × ((m' : AMember) × Steps self.old name.now m m' self.new × Tells D.told D.failures D.stops_alone machine.old m machine.new m' p)) }
         ensures unknown { IfErr result (λ bad. bad ≡ unknown.Unknown → IsNoClient (found self.old name.now) × IsSame self.old self.new × (machine.new ≡ machine.old)) }
         ensures failed { IfErr result (λ bad. bad ≢ unknown.Unknown → IsFailure bad) }
+        ensures counts { (alone : Bool) (rs : List Record) (pad : PadState) → IsAt D.told D.failures D.stops_alone alone rs machine.old pad → Counts (D.failures machine.old.disk) (D.failures machine.new.disk) result }
     {
         let Some(place) = self.place(name) else {
             return Err(WorldBad::Unknown);
@@ -283,6 +288,7 @@ impl Slot {
         ensures told { IfOk result (λ p. (m : AMember) × ((m' : AMember) × StepsAt self.old m m' self.new × Tells D.told D.failures D.stops_alone machine.old m machine.new m' p)) }
         ensures unknown { IfErr result (λ bad. bad ≡ unknown.Unknown → IsNoClient self.old.actor × (self.new ≡ self.old) × (machine.new ≡ machine.old)) }
         ensures failed { IfErr result (λ bad. bad ≢ unknown.Unknown → IsFailure bad) }
+        ensures counts { (alone : Bool) (rs : List Record) (pad : PadState) → IsAt D.told D.failures D.stops_alone alone rs machine.old pad → Counts (D.failures machine.old.disk) (D.failures machine.new.disk) result }
     {
         match &mut self.actor {
             Some(Actor::Named(member)) => Ok(tell_member(machine, member)?),

@@ -10,7 +10,7 @@ ghost use Rattle.ep_world.specs.Actors.{PutsActor};
 ghost use Rattle.ep_world.specs.Conns.{kept_new};
 ghost use Rattle.ep_world.specs.Entering.{started_member};
 ghost use Rattle.ep_world.specs.Shows.{visit_verb};
-ghost use Rattle.ep_world.specs.Standing.{Plays};
+ghost use Rattle.ep_world.specs.Standing.{Ends, Plays};
 
 use crate::actors::{Actor, Actors};
 use crate::bad::{WorldBad, refused};
@@ -27,7 +27,8 @@ use std::alloc::Global;
 impl<D: Crash> World<D> {
     /// A client logs in, and starts anew.
     pub(crate) fn login(&mut self, name: Units, now: u64) -> Result<Shown, WorldBad>
-        ensures { Plays D.told D.failures D.stops_alone self.old now (event.Login name) result self.new }
+        ensures plays { Plays D.told D.failures D.stops_alone self.old now (event.Login name) result self.new }
+        ensures ends { Ends D.told D.failures D.stops_alone self.old now (event.Login name) result self.new }
     {
         if self.actors.is_guest(&name) {
             return Err(WorldBad::Unknown);
@@ -46,7 +47,8 @@ impl<D: Crash> World<D> {
         read_only: bool,
         now: u64,
     ) -> Result<Shown, WorldBad>
-        ensures { Plays D.told D.failures D.stops_alone self.old now (event.Guest name read_only) result self.new }
+        ensures plays { Plays D.told D.failures D.stops_alone self.old now (event.Guest name read_only) result self.new }
+        ensures ends { Ends D.told D.failures D.stops_alone self.old now (event.Guest name read_only) result self.new }
     {
         if self.actors.is_client(&name) {
             return Err(WorldBad::Unknown);
@@ -61,7 +63,8 @@ impl<D: Crash> World<D> {
 
     /// A client, lost if it wasn't, comes back at its revision.
     pub(crate) fn resume(&mut self, name: Units, now: u64) -> Result<Shown, WorldBad>
-        ensures { Plays D.told D.failures D.stops_alone self.old now (event.Resume name) result self.new }
+        ensures plays { Plays D.told D.failures D.stops_alone self.old now (event.Resume name) result self.new }
+        ensures ends { Ends D.told D.failures D.stops_alone self.old now (event.Resume name) result self.new }
     {
         let mut member = self.actors.member(self.alloc, &name)?;
         member.lose();

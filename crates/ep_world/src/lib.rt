@@ -26,5 +26,5 @@ pub use bad::WorldBad;
 pub use conn::Conn;
 pub use member::Member;
 pub use message::{Down, Sent};
-pub use schedule::schedule_law;
+pub use schedule::{late_law, schedule_law};
 pub use world::World;

@@ -7,6 +7,8 @@ ghost use Rattle.ep_history.specs.Pad.{PadState};
 ghost use Rattle.ep_schedule.specs.Kepts.{Kepts};
 ghost use Rattle.ep_schedule.specs.World.{WorldState};
 ghost use Rattle.ep_event.specs.declared.shown.Shown.TheVariants as shown;
+ghost use Rattle.ep_world.specs.Counting.{Counts};
+ghost use Rattle.ep_world.specs.declared.bad.WorldBad.TheVariants as wanting;
 ghost use Rattle.ep_world.specs.Failing.{IsFailure};
 ghost use Rattle.ep_world.specs.Reading.{client_kept, ShowsClient, ShowsPad, TellsHead};
 ghost use Rattle.ep_world.specs.Shows.{shows_head, shows_marks, shows_text, shows_view, shows_view_marks, state_of};
@@ -58,7 +60,7 @@ impl<D: Crash> World<D> {
 
     /// The head.
     pub fn head(&mut self) -> Result<Shown, WorldBad>
-        ensures { (alone : Bool) (rs : List Record) (w : WorldState) (ks : Kepts) → StandsFor D.told D.failures D.stops_alone alone rs self.old w ks → ShowsPad D.told D.failures D.stops_alone alone rs w ks (shows_head w.pad) result self.new }
+        ensures { (alone : Bool) (rs : List Record) (w : WorldState) (ks : Kepts) → StandsFor D.told D.failures D.stops_alone alone rs self.old w ks → ShowsPad D.told D.failures D.stops_alone alone rs (D.failures self.old.machine.disk) w ks (shows_head w.pad) result self.new }
     {
         match head(&mut self.machine)? {
             Some((rev, doc)) => Ok(Shown::Head { rev, doc }),
@@ -68,7 +70,7 @@ impl<D: Crash> World<D> {
 
     /// The attributes of the head.
     pub fn marks(&mut self) -> Result<Shown, WorldBad>
-        ensures { (alone : Bool) (rs : List Record) (w : WorldState) (ks : Kepts) → StandsFor D.told D.failures D.stops_alone alone rs self.old w ks → ShowsPad D.told D.failures D.stops_alone alone rs w ks (shows_marks w.pad) result self.new }
+        ensures { (alone : Bool) (rs : List Record) (w : WorldState) (ks : Kepts) → StandsFor D.told D.failures D.stops_alone alone rs self.old w ks → ShowsPad D.told D.failures D.stops_alone alone rs (D.failures self.old.machine.disk) w ks (shows_marks w.pad) result self.new }
     {
         match head(&mut self.machine)? {
             Some((rev, doc)) => Ok(Shown::HeadMarks { rev, doc }),
@@ -78,7 +80,7 @@ impl<D: Crash> World<D> {
 
     /// The document of a revision.
     pub fn text(&mut self, rev: u64) -> Result<Shown, WorldBad>
-        ensures { (alone : Bool) (rs : List Record) (w : WorldState) (ks : Kepts) → StandsFor D.told D.failures D.stops_alone alone rs self.old w ks → ShowsPad D.told D.failures D.stops_alone alone rs w ks (shows_text w.pad rev) result self.new }
+        ensures { (alone : Bool) (rs : List Record) (w : WorldState) (ks : Kepts) → StandsFor D.told D.failures D.stops_alone alone rs self.old w ks → ShowsPad D.told D.failures D.stops_alone alone rs (D.failures self.old.machine.disk) w ks (shows_text w.pad rev) result self.new }
     {
         match self.machine.text(Some(rev)) {
             Ok(doc) => Ok(Shown::Text { rev, doc }),
@@ -91,7 +93,7 @@ impl<D: Crash> World<D> {
 
 fn show_view(alloc: Global, client: &Client, name: Units) -> Result<Shown, WorldBad>
     ensures shown { IfOk result (λ s. s ≡ shown.View name client.now.rev (state_of (is_some client.now.sent_in) (not (is_identity client.now.local))) client.now.view) }
-    ensures failed { IfErr result IsFailure }
+    ensures failed { IfErr result (λ bad. bad ≡ wanting.NoMemory) }
 {
     Ok(Shown::View {
         rev: client.rev(),
@@ -103,7 +105,7 @@ fn show_view(alloc: Global, client: &Client, name: Units) -> Result<Shown, World
 
 fn show_marks(alloc: Global, client: &Client, name: Units) -> Result<Shown, WorldBad>
     ensures shown { IfOk result (λ s. s ≡ shown.ViewMarks name client.now.view) }
-    ensures failed { IfErr result IsFailure }
+    ensures failed { IfErr result (λ bad. bad ≡ wanting.NoMemory) }
 {
     Ok(Shown::ViewMarks {
         doc: client.view().copy(alloc)?,
@@ -115,6 +117,7 @@ fn show_marks(alloc: Global, client: &Client, name: Units) -> Result<Shown, Worl
 fn head<D: Disk>(machine: &mut PadMachine<D>) -> Result<Option<(u64, Doc)>, WorldBad>
     ensures told { (alone : Bool) (rs : List Record) (pad : PadState) → IsAt D.told D.failures D.stops_alone alone rs machine.old pad → TellsHead D.told D.failures D.stops_alone alone rs pad result machine.new }
     ensures failed { IfErr result IsFailure }
+    ensures counts { (alone : Bool) (rs : List Record) (pad : PadState) → IsAt D.told D.failures D.stops_alone alone rs machine.old pad → Counts (D.failures machine.old.disk) (D.failures machine.new.disk) result }
 {
     match machine.status() {
         Ok(status) => match machine.text(None) {

@@ -1,11 +1,15 @@
 //! The schedule theorem, of what is played.
 
 ghost use Rattle.std.specs.Prelude.{◌∷◌, ◌++◌, Bool, [], List, ℕ, IfOk};
-ghost use Rattle.ep_schedule.specs.World.{WorldState, start};
+ghost use Rattle.ep_units.specs.Text.{Text};
+ghost use Rattle.ep_outside.specs.declared.limits.Limits.{Limits as TheLimits};
+ghost use Rattle.ep_schedule.specs.Headline.{after};
+ghost use Rattle.ep_schedule.specs.World.{Event as AnEvent, WorldState, start};
 ghost use Rattle.ep_schedule.specs.Kepts.{Kepts, nobodies};
 ghost use Rattle.ep_pad_file.specs.Standing.{Holds};
 ghost use Rattle.ep_event.specs.declared.event.Event.{Event as Told};
 ghost use Rattle.ep_world.specs.Journal.{begun};
+ghost use Rattle.ep_world.specs.Late.{RefusesLate};
 ghost use Rattle.ep_world.specs.Leading.{IsScheduled, Lead, Stays};
 ghost use Rattle.ep_world.specs.Standing.{StandsFor};
 ghost use Rattle.ep_history.specs.declared.record.Record.{Record};
@@ -50,3 +54,9 @@ fn play<D: Crash>(world: &mut World<D>, now: u64, event: Event) -> Result<(), Wo
         Err(bad) => Err(bad),
     }
 }
+
+/// A message that comes late, from the connection that a client had before its last resumption, is always refused: its text
+/// spells no change, or its session has ended. Nothing of it is recorded.
+pub fn late_law()
+    ensures { (limits : TheLimits) (id : Text) (events : List AnEvent) → RefusesLate (after limits id events) }
+{}

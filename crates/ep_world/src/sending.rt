@@ -5,7 +5,7 @@ ghost use Rattle.ep_cs.specs.EditFits.{is_edit};
 ghost use Rattle.ep_event.specs.declared.event.Event.TheVariants as event;
 ghost use Rattle.ep_local.specs.Local.{is_local_text};
 ghost use Rattle.ep_world.specs.Shows.{shows_edited, verb_of};
-ghost use Rattle.ep_world.specs.Standing.{Plays};
+ghost use Rattle.ep_world.specs.Standing.{Ends, Plays};
 
 use crate::actors::Actor;
 use crate::bad::WorldBad;
@@ -21,7 +21,8 @@ use ep_units::{NoMemory, Units};
 impl<D: Crash> World<D> {
     /// A client edits what it sees.
     pub(crate) fn edit(&mut self, name: Units, edit: &Local) -> Result<Shown, WorldBad>
-        ensures { (now : ℕ) → Plays D.told D.failures D.stops_alone self.old now (event.Edit name edit.now) result self.new }
+        ensures plays { (now : ℕ) → Plays D.told D.failures D.stops_alone self.old now (event.Edit name edit.now) result self.new }
+        ensures ends { (now : ℕ) → Ends D.told D.failures D.stops_alone self.old now (event.Edit name edit.now) result self.new }
     {
         if !is_text(edit) {
             return Err(WorldBad::NoText);
@@ -32,7 +33,8 @@ impl<D: Crash> World<D> {
 
     /// A client sends what it has to send.
     pub(crate) fn submit(&mut self, name: Units) -> Result<Shown, WorldBad>
-        ensures { (now : ℕ) → Plays D.told D.failures D.stops_alone self.old now (event.Submit name) result self.new }
+        ensures plays { (now : ℕ) → Plays D.told D.failures D.stops_alone self.old now (event.Submit name) result self.new }
+        ensures ends { (now : ℕ) → Ends D.told D.failures D.stops_alone self.old now (event.Submit name) result self.new }
     {
         Ok(self.actors.submit(self.alloc, name)?)
     }
@@ -44,7 +46,8 @@ impl<D: Crash> World<D> {
         base: u64,
         change: Result<Change, ReadBad>,
     ) -> Result<Shown, WorldBad>
-        ensures { (now : ℕ) → Plays D.told D.failures D.stops_alone self.old now (event.Inject name base change) result self.new }
+        ensures plays { (now : ℕ) → Plays D.told D.failures D.stops_alone self.old now (event.Inject name base change) result self.new }
+        ensures ends { (now : ℕ) → Ends D.told D.failures D.stops_alone self.old now (event.Inject name base change) result self.new }
     {
         match self.actors.take(&name) {
             Some(Actor::Guest(mut conn)) => {

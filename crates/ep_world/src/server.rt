@@ -4,7 +4,7 @@ ghost use Rattle.std.specs.Prelude.{◌≡◌, ℕ, true, IfOk};
 ghost use Rattle.ep_units.specs.Text.{is_well_formed};
 ghost use Rattle.ep_history.specs.History.{first_rev};
 ghost use Rattle.ep_event.specs.declared.event.Event.TheVariants as event;
-ghost use Rattle.ep_world.specs.Standing.{Plays};
+ghost use Rattle.ep_world.specs.Standing.{Ends, Plays};
 
 use crate::bad::{WorldBad, refused};
 use crate::world::World;
@@ -19,7 +19,8 @@ use std::alloc::Global;
 impl<D: Crash> World<D> {
     /// The pad is made with a text.
     pub(crate) fn create(&mut self, text: &Units, now: u64) -> Result<Shown, WorldBad>
-        ensures { Plays D.told D.failures D.stops_alone self.old now (event.Create text.now) result self.new }
+        ensures plays { Plays D.told D.failures D.stops_alone self.old now (event.Create text.now) result self.new }
+        ensures ends { Ends D.told D.failures D.stops_alone self.old now (event.Create text.now) result self.new }
     {
         if !text.well_formed() {
             return Err(WorldBad::NoText);
@@ -34,7 +35,8 @@ impl<D: Crash> World<D> {
 
     /// The pad's text is replaced.
     pub(crate) fn set_text(&mut self, text: &Units, now: u64) -> Result<Shown, WorldBad>
-        ensures { Plays D.told D.failures D.stops_alone self.old now (event.SetText text.now) result self.new }
+        ensures plays { Plays D.told D.failures D.stops_alone self.old now (event.SetText text.now) result self.new }
+        ensures ends { Ends D.told D.failures D.stops_alone self.old now (event.SetText text.now) result self.new }
     {
         if !text.well_formed() {
             return Err(WorldBad::NoText);
@@ -54,7 +56,8 @@ impl<D: Crash> World<D> {
 
     /// The pad is deleted.
     pub(crate) fn delete(&mut self, now: u64) -> Result<Shown, WorldBad>
-        ensures { Plays D.told D.failures D.stops_alone self.old now event.Delete result self.new }
+        ensures plays { Plays D.told D.failures D.stops_alone self.old now event.Delete result self.new }
+        ensures ends { Ends D.told D.failures D.stops_alone self.old now event.Delete result self.new }
     {
         match self.machine.delete(now) {
             Ok(()) => Ok(Shown::Done {

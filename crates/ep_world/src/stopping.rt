@@ -1,6 +1,6 @@
 //! The server stops and starts again.
 
-ghost use Rattle.std.specs.Prelude.{◌≡◌, Bool, List, Option, Some, None, Err, IfErr, IfOk, OnOk, MatchResult};
+ghost use Rattle.std.specs.Prelude.{◌≡◌, ◌≤◌, Bool, List, Option, Some, None, Err, IfErr, IfOk, OnOk, MatchResult};
 ghost use Rattle.std.specs.Option.{option_map};
 ghost use Rattle.ep_units.specs.declared.session.Session.{Session};
 ghost use Rattle.ep_history.specs.Machine.{MachineState, IsKeptState};
@@ -9,10 +9,12 @@ ghost use Rattle.ep_history.specs.declared.pad_bad.PadBad.TheVariants as bad;
 ghost use Rattle.ep_schedule.specs.World.{Message};
 ghost use Rattle.ep_pad.specs.Standing.{Stands};
 ghost use Rattle.ep_event.specs.declared.event.Event.TheVariants as event;
+ghost use Rattle.ep_world.specs.Counting.{Counts};
+ghost use Rattle.ep_world.specs.declared.bad.WorldBad.TheVariants as wanting;
 ghost use Rattle.ep_world.specs.Failing.{IsFailure};
 ghost use Rattle.ep_world.specs.Shows.{shows_opening};
-ghost use Rattle.ep_world.specs.Standing.{IsAt, Plays};
-ghost use Rattle.ep_world.specs.Stopping.{BreaksOff, FindsFirst, Reopens, TakesFirst, TakesSent, taken_of};
+ghost use Rattle.ep_world.specs.Standing.{Ends, IsAt, Plays};
+ghost use Rattle.ep_world.specs.Stopping.{BreaksNot, BreaksOff, FindsFirst, IsUnopened, Reopens, TakesFirst, TakesSent, taken_of};
 ghost use Rattle.ep_history.specs.declared.record.Record.{Record};
 
 use crate::actors::{Actor, Actors};
@@ -30,7 +32,8 @@ use std::alloc::Global;
 impl<D: Crash> World<D> {
     /// A crash between two calls: all connections are lost, and the pad is opened anew.
     pub(crate) fn crash(&mut self, now: u64) -> Result<Shown, WorldBad>
-        ensures { Plays D.told D.failures D.stops_alone self.old now (event.Stop None) result self.new }
+        ensures plays { Plays D.told D.failures D.stops_alone self.old now (event.Stop None) result self.new }
+        ensures ends { Ends D.told D.failures D.stops_alone self.old now (event.Stop None) result self.new }
     {
         reopen(&mut self.machine)?;
         self.actors.cut_off();
@@ -39,7 +42,8 @@ impl<D: Crash> World<D> {
 
     /// A crash within the take of a name's first message, where it has one.
     pub(crate) fn stop(&mut self, at: StopAt, now: u64) -> Result<Shown, WorldBad>
-        ensures { Plays D.told D.failures D.stops_alone self.old now (event.Stop (Some at)) result self.new }
+        ensures plays { Plays D.told D.failures D.stops_alone self.old now (event.Stop (Some at)) result self.new }
+        ensures ends { Ends D.told D.failures D.stops_alone self.old now (event.Stop (Some at)) result self.new }
     {
         let StopAt { name, calls, image } = at;
         let first = first_sent(self.alloc, &mut self.actors, &name)?;
@@ -54,6 +58,8 @@ fn reopen<D: Crash>(machine: &mut PadMachine<D>) -> Result<(), WorldBad>
     ensures reopens { (alone : Bool) (st : MachineState) → IsKeptState st → Stands D.told D.failures machine.old st → D.stops_alone machine.old.disk ≡ alone
         → IfOk result (λ _. Reopens D.told D.failures D.stops_alone alone st machine.new) }
     ensures failed { IfErr result IsFailure }
+    ensures counts { (alone : Bool) (rs : List Record) (pad : PadState) → IsAt D.told D.failures D.stops_alone alone rs machine.old pad
+        → MatchResult result (λ _. D.failures machine.old.disk ≤ D.failures machine.new.disk) (IsUnopened (D.failures machine.old.disk) (D.failures machine.new.disk) rs pad) }
 {
     match machine.restart() {
         Ok(()) => Ok(()),
@@ -74,6 +80,9 @@ fn break_off<D: Crash>(
         → IsAt D.told D.failures D.stops_alone alone rs machine.old pad
         → IfOk result (λ _. BreaksOff D.told D.failures D.stops_alone alone rs pad now message calls image machine.new) }
     ensures failed { IfErr result IsFailure }
+    ensures counts { (alone : Bool) (rs : List Record) (pad : PadState) (message : Option (Session × Message)) → first ≡ option_map taken_of message
+        → IsAt D.told D.failures D.stops_alone alone rs machine.old pad
+        → MatchResult result (λ _. D.failures machine.old.disk ≤ D.failures machine.new.disk) (BreaksNot alone rs pad now message (D.failures machine.old.disk) (D.failures machine.new.disk)) }
 {
     let Some((session, sent)) = first else {
         return reopen(machine);
@@ -93,6 +102,7 @@ fn break_off<D: Crash>(
 fn unheard(taken: Result<Committed, PadBad>) -> Result<(), WorldBad>
     ensures heard { OnOk result (taken ≡ Err bad.NoMemory → ⊥) }
     ensures failed { IfErr result IsFailure }
+    ensures memory { IfErr result (λ bad. bad ≡ wanting.NoMemory) }
 {
     match taken {
         Err(PadBad::NoMemory) => Err(WorldBad::NoMemory),
@@ -139,8 +149,9 @@ fn first_of(conn: &mut Conn) -> Option<(Session, Sent)>
 
 /// The number of the opening, and the head where the pad is there.
 fn opening<D: Disk>(machine: &mut PadMachine<D>) -> Result<Shown, WorldBad>
-    ensures { (alone : Bool) (rs : List Record) (pad : PadState) → IsAt D.told D.failures D.stops_alone alone rs machine.old pad
+    ensures shows { (alone : Bool) (rs : List Record) (pad : PadState) → IsAt D.told D.failures D.stops_alone alone rs machine.old pad
         → MatchResult result (λ shown. (shown ≡ shows_opening pad) × IsAt D.told D.failures D.stops_alone alone rs machine.new pad) IsFailure }
+    ensures counts { (alone : Bool) (rs : List Record) (pad : PadState) → IsAt D.told D.failures D.stops_alone alone rs machine.old pad → Counts (D.failures machine.old.disk) (D.failures machine.new.disk) result }
 {
     let epoch = machine.epoch();
     match machine.status() {

@@ -9,8 +9,9 @@ ghost use Rattle.ep_schedule.specs.Kepts.{Kepts};
 ghost use Rattle.ep_event.specs.declared.event.Event.TheVariants as event;
 ghost use Rattle.ep_world.specs.Actors.{member_of};
 ghost use Rattle.ep_world.specs.Conns.{conn_of, sent_of};
+ghost use Rattle.ep_world.specs.Counting.{Counts};
 ghost use Rattle.ep_world.specs.Failing.{IsFailure};
-ghost use Rattle.ep_world.specs.Standing.{Comes, IsAt, Plays, StandsBut};
+ghost use Rattle.ep_world.specs.Standing.{Comes, Ends, IsAt, Plays, StandsBut};
 ghost use Rattle.ep_step.specs.Telling.{told_by};
 ghost use Rattle.ep_event.specs.declared.shown.Shown.TheVariants as shown;
 ghost use Rattle.ep_world.specs.Shows.{shows_made};
@@ -42,7 +43,8 @@ pub(crate) enum Took {
 impl<D: Crash> World<D> {
     /// The server takes the first message of a name.
     pub(crate) fn take(&mut self, name: Units, now: u64) -> Result<Shown, WorldBad>
-        ensures { Plays D.told D.failures D.stops_alone self.old now (event.Take name) result self.new }
+        ensures plays { Plays D.told D.failures D.stops_alone self.old now (event.Take name) result self.new }
+        ensures ends { Ends D.told D.failures D.stops_alone self.old now (event.Take name) result self.new }
     {
         match self.actors.take(&name) {
             None => Err(WorldBad::Unknown),
@@ -52,8 +54,10 @@ impl<D: Crash> World<D> {
     }
 
     fn take_of_guest(&mut self, name: Units, mut conn: Conn, now: u64) -> Result<Shown, WorldBad>
-        ensures { (alone : Bool) (rs : List Record) (w : WorldState) (ks : Kepts) (c : AConn) → w.actors name ≡ Guest c → conn ≡ conn_of c → StandsBut D.told D.failures D.stops_alone alone rs self.old name w ks
+        ensures comes { (alone : Bool) (rs : List Record) (w : WorldState) (ks : Kepts) (c : AConn) → w.actors name ≡ Guest c → conn ≡ conn_of c → StandsBut D.told D.failures D.stops_alone alone rs self.old name w ks
             → Comes D.told D.failures D.stops_alone alone rs w ks now (event.Take name) self.new result }
+        ensures counts { (alone : Bool) (rs : List Record) (w : WorldState) (ks : Kepts) (c : AConn) → w.actors name ≡ Guest c → conn ≡ conn_of c → StandsBut D.told D.failures D.stops_alone alone rs self.old name w ks
+            → Counts (D.failures self.old.machine.disk) (D.failures self.new.machine.disk) result }
     {
         let session = conn.session();
         let Some(sent) = conn.take() else {
@@ -77,8 +81,10 @@ impl<D: Crash> World<D> {
         mut member: Member,
         now: u64,
     ) -> Result<Shown, WorldBad>
-        ensures { (alone : Bool) (rs : List Record) (w : WorldState) (ks : Kepts) (m : AMember) → w.actors name ≡ Named m → member ≡ member_of m (ks name) → StandsBut D.told D.failures D.stops_alone alone rs self.old name w ks
+        ensures comes { (alone : Bool) (rs : List Record) (w : WorldState) (ks : Kepts) (m : AMember) → w.actors name ≡ Named m → member ≡ member_of m (ks name) → StandsBut D.told D.failures D.stops_alone alone rs self.old name w ks
             → Comes D.told D.failures D.stops_alone alone rs w ks now (event.Take name) self.new result }
+        ensures counts { (alone : Bool) (rs : List Record) (w : WorldState) (ks : Kepts) (m : AMember) → w.actors name ≡ Named m → member ≡ member_of m (ks name) → StandsBut D.told D.failures D.stops_alone alone rs self.old name w ks
+            → Counts (D.failures self.old.machine.disk) (D.failures self.new.machine.disk) result }
     {
         let session = member.conn.session();
         let Some(sent) = member.conn.take() else {
@@ -99,7 +105,8 @@ impl<D: Crash> World<D> {
 
     /// The server takes the first message of the connection that a client had before its last resumption.
     pub(crate) fn late(&mut self, name: Units, now: u64) -> Result<Shown, WorldBad>
-        ensures { Plays D.told D.failures D.stops_alone self.old now (event.Late name) result self.new }
+        ensures plays { Plays D.told D.failures D.stops_alone self.old now (event.Late name) result self.new }
+        ensures ends { Ends D.told D.failures D.stops_alone self.old now (event.Late name) result self.new }
     {
         let mut member = self.actors.member(self.alloc, &name)?;
         let Some((session, sent)) = member.late() else {
@@ -125,8 +132,10 @@ fn bring_or_leave<D: Disk>(
     sent: Sent,
     now: u64,
 ) -> Result<Took, WorldBad>
-    ensures { (alone : Bool) (rs : List Record) (pad : PadState) (msg : Message) → sent ≡ sent_of msg → IsAt D.told D.failures D.stops_alone alone rs machine.old pad
+    ensures settles { (alone : Bool) (rs : List Record) (pad : PadState) (msg : Message) → sent ≡ sent_of msg → IsAt D.told D.failures D.stops_alone alone rs machine.old pad
         → MatchResult result (Settles D.told D.failures D.stops_alone alone rs pad session msg now machine.new) IsFailure }
+    ensures counts { (alone : Bool) (rs : List Record) (pad : PadState) (msg : Message) → sent ≡ sent_of msg → IsAt D.told D.failures D.stops_alone alone rs machine.old pad
+        → Counts (D.failures machine.old.disk) (D.failures machine.new.disk) result }
 {
     match bring(machine, session, sent, now) {
         Ok(took) => leave_unless_made(machine, session, took),
@@ -140,8 +149,9 @@ fn leave_unless_made<D: Disk>(
     session: Session,
     took: Took,
 ) -> Result<Took, WorldBad>
-    ensures { (alone : Bool) (rs : List Record) (pad : PadState) (msg : Message) (now : ℕ) → Brings D.told D.failures D.stops_alone alone rs pad session msg now machine.old took
+    ensures settles { (alone : Bool) (rs : List Record) (pad : PadState) (msg : Message) (now : ℕ) → Brings D.told D.failures D.stops_alone alone rs pad session msg now machine.old took
         → MatchResult result (Settles D.told D.failures D.stops_alone alone rs pad session msg now machine.new) IsFailure }
+    ensures counts { (alone : Bool) (rs : List Record) (pad : PadState) → IsAt D.told D.failures D.stops_alone alone rs machine.old pad → Counts (D.failures machine.old.disk) (D.failures machine.new.disk) result }
 {
     match took {
         Took::Made(made) => Ok(Took::Made(made)),
@@ -163,8 +173,9 @@ pub(crate) fn bring<D: Disk>(
     sent: Sent,
     now: u64,
 ) -> Result<Took, WorldBad>
-    ensures { (alone : Bool) (rs : List Record) (pad : PadState) (msg : Message) → sent ≡ sent_of msg → IsAt D.told D.failures D.stops_alone alone rs machine.old pad
+    ensures brings { (alone : Bool) (rs : List Record) (pad : PadState) (msg : Message) → sent ≡ sent_of msg → IsAt D.told D.failures D.stops_alone alone rs machine.old pad
         → MatchResult result (Brings D.told D.failures D.stops_alone alone rs pad session msg now machine.new) IsFailure }
+    ensures counts { (alone : Bool) (rs : List Record) (pad : PadState) → IsAt D.told D.failures D.stops_alone alone rs machine.old pad → Counts (D.failures machine.old.disk) (D.failures machine.new.disk) result }
 {
     let Sent { base, change } = sent;
     match change {
@@ -181,8 +192,9 @@ fn accept<D: Disk>(
     change: Change,
     now: u64,
 ) -> Result<Took, WorldBad>
-    ensures { (alone : Bool) (rs : List Record) (pad : PadState) (msg : Message) → msg.base ≡ base → msg.change ≡ change → is_edit change.edit ≡ true → IsAt D.told D.failures D.stops_alone alone rs machine.old pad
+    ensures brings { (alone : Bool) (rs : List Record) (pad : PadState) (msg : Message) → msg.base ≡ base → msg.change ≡ change → is_edit change.edit ≡ true → IsAt D.told D.failures D.stops_alone alone rs machine.old pad
         → MatchResult result (Brings D.told D.failures D.stops_alone alone rs pad session msg now machine.new) IsFailure }
+    ensures counts { (alone : Bool) (rs : List Record) (pad : PadState) → IsAt D.told D.failures D.stops_alone alone rs machine.old pad → Counts (D.failures machine.old.disk) (D.failures machine.new.disk) result }
 {
     match machine.accept(session, base, change, now) {
         Ok(made) => Ok(Took::Made(made)),
@@ -204,8 +216,9 @@ fn not_made(bad: PadBad) -> Result<Took, WorldBad>
 
 /// A session whose message isn't taken is left, if it was live.
 fn give_leave<D: Disk>(machine: &mut PadMachine<D>, session: Session) -> Result<(), WorldBad>
-    ensures { (alone : Bool) (rs : List Record) (pad : PadState) → IsAt D.told D.failures D.stops_alone alone rs machine.old pad
+    ensures leaves { (alone : Bool) (rs : List Record) (pad : PadState) → IsAt D.told D.failures D.stops_alone alone rs machine.old pad
         → MatchResult result (λ _. IsAt D.told D.failures D.stops_alone alone rs machine.new (leave pad session)) IsFailure }
+    ensures counts { (alone : Bool) (rs : List Record) (pad : PadState) → IsAt D.told D.failures D.stops_alone alone rs machine.old pad → Counts (D.failures machine.old.disk) (D.failures machine.new.disk) result }
 {
     match machine.leave(session) {
         Ok(()) => Ok(()),

@@ -6,8 +6,9 @@ ghost use Rattle.ep_event.specs.declared.event.Event.TheVariants as event;
 ghost use Rattle.ep_event.specs.declared.shown.Shown.TheVariants as shown;
 ghost use Rattle.ep_event.specs.declared.shown.Verb.TheVariants as verb;
 ghost use Rattle.ep_world.specs.Conns.{kept_closing_if};
+ghost use Rattle.ep_world.specs.Counting.{Counts};
 ghost use Rattle.ep_world.specs.Failing.{IsFailure};
-ghost use Rattle.ep_world.specs.Standing.{IsAt, Plays};
+ghost use Rattle.ep_world.specs.Standing.{Ends, IsAt, Plays};
 ghost use Rattle.ep_world.specs.Pushing.{TellsMember, TellsOf};
 ghost use Rattle.ep_world.specs.Telling.{ended_by, is_first, pushed_by, pushed_next, pushed_rev, shows_pushed, told_next, told_rev};
 ghost use Rattle.ep_history.specs.declared.record.Record.{Record};
@@ -35,7 +36,8 @@ pub(crate) enum Pushed {
 impl<D: Crash> World<D> {
     /// The server sends a client the next that it is to be told.
     pub(crate) fn push(&mut self, name: Units) -> Result<Shown, WorldBad>
-        ensures { (now : ℕ) → Plays D.told D.failures D.stops_alone self.old now (event.Push name) result self.new }
+        ensures plays { (now : ℕ) → Plays D.told D.failures D.stops_alone self.old now (event.Push name) result self.new }
+        ensures ends { (now : ℕ) → Ends D.told D.failures D.stops_alone self.old now (event.Push name) result self.new }
     {
         let pushed = self.actors.push(&mut self.machine, &name)?;
         Ok(pushed.show(name))
@@ -43,14 +45,16 @@ impl<D: Crash> World<D> {
 
     /// A client hears the first of its queue down.
     pub(crate) fn hear(&mut self, name: Units) -> Result<Shown, WorldBad>
-        ensures { (now : ℕ) → Plays D.told D.failures D.stops_alone self.old now (event.Hear name) result self.new }
+        ensures plays { (now : ℕ) → Plays D.told D.failures D.stops_alone self.old now (event.Hear name) result self.new }
+        ensures ends { (now : ℕ) → Ends D.told D.failures D.stops_alone self.old now (event.Hear name) result self.new }
     {
         Ok(self.actors.hear(self.alloc, name)?)
     }
 
     /// A client's connection is lost.
     pub(crate) fn lose(&mut self, name: Units) -> Result<Shown, WorldBad>
-        ensures { (now : ℕ) → Plays D.told D.failures D.stops_alone self.old now (event.Lose name) result self.new }
+        ensures plays { (now : ℕ) → Plays D.told D.failures D.stops_alone self.old now (event.Lose name) result self.new }
+        ensures ends { (now : ℕ) → Ends D.told D.failures D.stops_alone self.old now (event.Lose name) result self.new }
     {
         let mut member = self.actors.member(self.alloc, &name)?;
         let was = member.client.is_connected();
@@ -82,6 +86,7 @@ pub(crate) fn tell_member<D: Disk>(
 ) -> Result<Pushed, WorldBad>
     ensures told { (alone : Bool) (rs : List Record) (pad : PadState) → IsAt D.told D.failures D.stops_alone alone rs machine.old pad → IfOk result (TellsMember D.told D.failures D.stops_alone alone rs pad member.old machine.new member.new) }
     ensures failed { IfErr result IsFailure }
+    ensures counts { (alone : Bool) (rs : List Record) (pad : PadState) → IsAt D.told D.failures D.stops_alone alone rs machine.old pad → Counts (D.failures machine.old.disk) (D.failures machine.new.disk) result }
 {
     if !member.may_be_told() {
         return Ok(Pushed::Nothing);
@@ -93,6 +98,7 @@ pub(crate) fn tell_member<D: Disk>(
 fn tell<D: Disk>(machine: &mut PadMachine<D>, conn: &mut Conn) -> Result<Pushed, WorldBad>
     ensures told { (alone : Bool) (rs : List Record) (pad : PadState) → IsAt D.told D.failures D.stops_alone alone rs machine.old pad → IfOk result (TellsOf D.told D.failures D.stops_alone alone rs pad conn.old machine.new conn.new) }
     ensures failed { IfErr result IsFailure }
+    ensures counts { (alone : Bool) (rs : List Record) (pad : PadState) → IsAt D.told D.failures D.stops_alone alone rs machine.old pad → Counts (D.failures machine.old.disk) (D.failures machine.new.disk) result }
 {
     match machine.fetch_first(conn.session, conn.sent, conn.nops, 1) {
         Ok(fetched) => Ok(tell_next(conn, fetched)?),

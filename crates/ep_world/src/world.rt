@@ -1,11 +1,12 @@
 //! The world: a pad's machine, and who takes part.
 
-ghost use Rattle.std.specs.Prelude.{◌≡◌, ℕ, [], IfOk};
-ghost use Rattle.ep_schedule.specs.World.{start};
-ghost use Rattle.ep_schedule.specs.Kepts.{nobodies};
+ghost use Rattle.std.specs.Prelude.{◌≡◌, [], Bool, List, IfErr, IfOk};
+ghost use Rattle.ep_history.specs.declared.record.Record.{Record};
+ghost use Rattle.ep_schedule.specs.World.{WorldState, start};
+ghost use Rattle.ep_schedule.specs.Kepts.{Kepts, nobodies};
 ghost use Rattle.ep_pad_file.specs.Standing.{Holds};
 ghost use Rattle.ep_world.specs.Journal.{begun};
-ghost use Rattle.ep_world.specs.Standing.{Plays, StandsFor};
+ghost use Rattle.ep_world.specs.Standing.{Ends, IsAt, IsUnbegun, Plays, StandsFor};
 
 use crate::actors::Actors;
 use crate::bad::{WorldBad, failure};
@@ -16,7 +17,6 @@ use ep_units::PadId;
 use std::alloc::Global;
 
 /// One pad on its disk, its clients and its guests, with a connection for each.
-#[derive(Drop)]
 pub struct World<D: Crash> {
     pub(crate) alloc: Global,
     pub(crate) id: PadId,
@@ -24,12 +24,24 @@ pub struct World<D: Crash> {
     pub(crate) actors: Actors,
 }
 
+impl<D: Crash + Drop> Drop for World<D> {
+    fn drop(self) {
+        let World {
+            alloc: _,
+            id: _,
+            machine: _,
+            actors: _,
+        } = self;
+    }
+}
+
 impl<D: Crash> World<D> {
     /// The pad of an empty disk, which isn't made yet, and nobody.
     pub fn new(alloc: Global, disk: D, limits: Limits, id: PadId) -> Result<World<D>, WorldBad>
     where
         D: Drop,
-        ensures { Holds (D.told disk) [] → IfOk result (λ world. StandsFor D.told D.failures D.stops_alone (D.stops_alone disk) begun world (start limits id) nobodies) }
+        ensures begins { Holds (D.told disk) [] → IfOk result (λ world. StandsFor D.told D.failures D.stops_alone (D.stops_alone disk) begun world (start limits id) nobodies) }
+        ensures ends { IfErr result (IsUnbegun D.told D.failures disk limits id) }
     {
         match PadMachine::open(alloc, disk, limits) {
             Ok(machine) => Ok(World {
@@ -44,7 +56,8 @@ impl<D: Crash> World<D> {
 
     /// One event at this moment, in milliseconds since 1970.
     pub fn step(&mut self, now: u64, event: Event) -> Result<Shown, WorldBad>
-        ensures { Plays D.told D.failures D.stops_alone self.old now event result self.new }
+        ensures plays { Plays D.told D.failures D.stops_alone self.old now event result self.new }
+        ensures ends { Ends D.told D.failures D.stops_alone self.old now event result self.new }
     {
         match event {
             Event::Create { text } => self.create(&text, now),
@@ -66,8 +79,12 @@ impl<D: Crash> World<D> {
         }
     }
 
-    /// The pad's machine.
-    pub fn pad(&self) -> &PadMachine<D> {
+    /// The pad's machine, which is lent: its file has the records of the pad.
+    pub fn pad(&self) -> &PadMachine<D>
+        ensures lends { result.now ≡ self.now.machine }
+        ensures stands { (alone : Bool) (rs : List Record) (w : WorldState) (ks : Kepts) → StandsFor D.told D.failures D.stops_alone alone rs self.now w ks
+            → IsAt D.told D.failures D.stops_alone alone rs result.now w.pad × Holds (D.told result.now.disk) rs }
+    {
         &self.machine
     }
 }

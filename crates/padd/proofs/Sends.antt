@@ -11,6 +11,7 @@ use Rattle.ep_pad_port.proofs.Crossing.{house_send, house_sync}
 use Rattle.ep_serve.proofs.work.Work.TheSendSync as work
 use Rattle.ep_serve.specs.contracts.work.Work as served
 use Rattle.padd.specs.contracts.real.RealJob as real_job
+use Rattle.padd.specs.contracts.missing.Opened as opened
 use Rattle.padd.specs.contracts.shelf.RealShelf as real_shelf
 use Rattle.ep_edge.specs.contracts.file_disk.FileDisk as file_disk
 use Rattle.ep_edge.specs.contracts.sys_clock.SysClock as sys_clock
@@ -23,6 +24,9 @@ use Rattle.ep_keep_far.specs.contracts.far_keeper.FarKeeper as far_keeper
 
 pub shelf_sends : IsSend real_shelf.the_row
 shelf_sends = search (sendable, crosses) depth 30
+
+pub opened_sends : IsSend opened.the_row
+opened_sends = search (sendable, crosses, shelf_sends) depth 30
 
 pub disk_sends : IsSend file_disk.the_row
 disk_sends = search (sendable, crosses) depth 30

@@ -3,14 +3,18 @@
 //! All that the program does is `run`, over any devices; `main` makes the real ones.
 #![tactic(auto)]
 
+mod missing;
 mod real;
 mod shelf;
+mod spoken;
 
+use crossbeam_channel::bounded;
 use ep_doors::{ThreadSpawner, start_all};
-use ep_keep_far::FarKeeper;
-use ep_units::NoMemory;
-use real::{RealJob, keeper_in, run_real, word_at};
-use shelf::RealShelf;
+use ep_keep_far::{Desk, FarKeeper};
+use ep_outside::Keeper;
+use missing::{Missing, Opened};
+use real::{RealJob, keeper_in, run_real};
+use spoken::spoken_by;
 use std::io::{ErrorKind, IsTerminal};
 use std::process::ExitCode;
 use std::thread::join;
@@ -29,41 +33,83 @@ fn given_words(rt: &HostRuntime) -> io::Result<Vec<String>> {
     Ok(words)
 }
 
+/// What stands before the program's threads are there.
+#[derive(Drop)]
+struct Begun {
+    serves: bool,
+    folder: String,
+    opened: Opened,
+    keeper: FarKeeper<HostRuntime>,
+    desk: Desk,
+}
+
+impl Begun {
+    /// What the words speak of, opened, and the keeper that another thread is to have.
+    fn by(rt: HostRuntime, words: &[String]) -> Result<Begun, Missing> {
+        let alloc = rt.alloc();
+        let spoken = spoken_by(alloc, words);
+        let opened = Opened::by(&rt, &spoken)?;
+        let folder = String::from_str(alloc, spoken.folder)?;
+        let (keeper, desk) = FarKeeper::new(rt, alloc)?;
+        Ok(Begun {
+            serves: spoken.serves,
+            folder,
+            opened,
+            keeper,
+            desk,
+        })
+    }
+}
+
+/// Says what is missing, in one line.
+fn lacking(rt: &HostRuntime, missing: Missing) -> ExitCode {
+    let _told = eprintln!(rt; "padd: {missing}");
+    ExitCode::from(missing.status())
+}
+
 fn main(rt: HostRuntime) -> ExitCode {
-    let alloc = rt.alloc();
     let Ok(words) = given_words(&rt) else {
         return ExitCode::from(7);
     };
-    let Ok(folder) = String::from_str(alloc, word_at(&words, "serve", 5, 3)) else {
-        return ExitCode::from(7);
+    let begun = match Begun::by(rt, &words) {
+        Ok(begun) => begun,
+        Err(missing) => return lacking(&rt, missing),
     };
-    let Ok((spawner, starter)) = ThreadSpawner::<RealJob<HostRuntime>>::new(alloc) else {
-        return ExitCode::from(7);
+    let Begun {
+        serves,
+        folder,
+        opened,
+        keeper,
+        desk,
+    } = begun;
+    let Ok((spawner, starter)) = ThreadSpawner::<RealJob<HostRuntime>>::new(rt.alloc()) else {
+        return lacking(&rt, Missing::Memory);
     };
-    let Ok((keeper, desk)) = FarKeeper::new(rt, alloc) else {
-        return ExitCode::from(7);
-    };
-    let Ok(pads) = RealShelf::open_at(&rt, folder.as_str()) else {
-        return ExitCode::from(7);
+    let Ok((tell, told)) = bounded(rt.alloc(), 1) else {
+        return lacking(&rt, Missing::Memory);
     };
     // The database stays in the thread that opens it, which ends with the program.
     let kept = thread::spawn(&rt, move || {
         if let Some(mut kept) = keeper_in(&rt, folder.as_str()) {
+            let _heard = tell.send(&rt, kept.get("").is_ok());
             desk.answer_all(&rt, &mut kept);
         }
     });
     if kept.is_err() {
-        return ExitCode::from(9);
+        return lacking(&rt, Missing::Thread);
+    }
+    if serves && !told.recv(&rt).unwrap_or(false) {
+        return lacking(&rt, Missing::Database);
     }
     let is_watched = rt.stderr().is_terminal();
     // What the words ask for has a thread of its own; this one starts those of its jobs.
     let (ended, ()) = join(
         &rt,
-        move || run_real(rt, is_watched, &words, pads, keeper, spawner),
+        move || run_real(rt, is_watched, &words, opened, keeper, spawner),
         || start_all(&rt, starter),
     );
     match ended {
         Ok(status) => ExitCode::from(status.code),
-        Err(NoMemory) => ExitCode::from(7),
+        Err(missing) => lacking(&rt, missing),
     }
 }

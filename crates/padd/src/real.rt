@@ -1,6 +1,8 @@
 //! The real devices.
 
+use crate::missing::{Missing, Opened};
 use crate::shelf::RealShelf;
+use crate::spoken::{Spoken, spoken_by};
 use ep_doors::{Host, Job, ThreadSpawner};
 use ep_edge::{FileShelf, StdSink, StdSource, SysClock, SysDraws};
 use ep_keep_far::FarKeeper;
@@ -82,26 +84,19 @@ impl<R: Wait + Net + RandomSource + Clock + Copy + Drop> Host<WsLink<R>, ApiStre
     }
 }
 
-/// The word at a place, where the first is this one and there are so many; else an empty one.
-pub fn word_at<'a>(words: &'a [String], first: &str, count: usize, at: usize) -> &'a str {
-    match (words.first(), words.get(at)) {
-        (Some(name), Some(word)) if name.as_str() == first && words.len() == count => word.as_str(),
-        _ => "",
-    }
-}
-
 /// The doors that the words speak of, or the way to them.
 fn doors_of<R: Net + RandomSource + Clock + AllocGlobal + Copy + Drop>(
     rt: R,
-    words: &[String],
-) -> Result<TcpDoors<R>, NoMemory> {
-    let server = word_at(words, "write", 4, 1);
-    if server.is_empty() {
-        let pads = word_at(words, "serve", 5, 1);
-        TcpDoors::open(rt, rt.alloc(), pads, word_at(words, "serve", 5, 2))
-    } else {
-        TcpDoors::calling(rt, rt.alloc(), server)
+    spoken: &Spoken<'_>,
+) -> Result<TcpDoors<R>, Missing> {
+    if !spoken.server.is_empty() {
+        return Ok(TcpDoors::calling(rt, rt.alloc(), spoken.server)?);
     }
+    let doors = TcpDoors::open(rt, rt.alloc(), spoken.pads, spoken.api)?;
+    if spoken.serves && doors.pads_address().is_none() {
+        return Err(Missing::Address);
+    }
+    Ok(doors)
 }
 
 /// The database in a server's folder, which its owner alone reads. Where it can't be opened, each call of it fails; none
@@ -126,10 +121,10 @@ pub fn run_real<R>(
     rt: R,
     is_watched: bool,
     words: &[String],
-    pads: RealShelf,
+    opened: Opened,
     keeper: FarKeeper<R>,
     mut spawner: ThreadSpawner<RealJob<R>>,
-) -> Result<Status, NoMemory>
+) -> Result<Status, Missing>
 where
     R: Wait
         + Threads
@@ -145,13 +140,14 @@ where
         + Drop,
 {
     let alloc = rt.alloc();
+    let Opened { pads, key } = opened;
+    let spoken = spoken_by(alloc, words);
     let mut source = StdSource::new(rt.reader());
     let mut sink = StdSink::new(io::writer(&rt));
-    let folder = FileShelf::open_at(&rt, word_at(words, "verify", 3, 1))?;
+    let folder = FileShelf::open_at(&rt, spoken.judged)?;
     let mut shelf = ShownShelf::new(folder, rt, is_watched);
-    let mut doors = doors_of(rt, words)?;
+    let mut doors = doors_of(rt, &spoken)?;
     let house = House::open(alloc, pads, keeper, LIMITS)?;
-    let key = String::from_str(alloc, word_at(words, "serve", 5, 4))?;
     let server = Server::new(alloc, house, SysClock::new(rt), SysDraws::new(rt), key)?;
     let mut host = RealServer { server };
     Ok(run(

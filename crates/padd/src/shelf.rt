@@ -1,13 +1,18 @@
 //! The shelf of a folder of this machine.
 
-use ep_edge::{FileDisk, FileShelf};
+use ep_edge::{FileDisk, FileShelf, Lacking};
 use ep_outside::{Device, Shelf, ShelfBad};
 use ep_units::{NoMemory, PadId};
 
 /// The shelf of a folder. It is the shelf within; its type names no runtime, so that those that stand on it are short.
-#[derive(Drop)]
 pub struct RealShelf {
     shelf: FileShelf<HostRuntime>,
+}
+
+impl Drop for RealShelf {
+    fn drop(self) {
+        let RealShelf { shelf: _ } = self;
+    }
 }
 
 impl RealShelf {
@@ -16,6 +21,11 @@ impl RealShelf {
         Ok(RealShelf {
             shelf: FileShelf::open_at(rt, path)?,
         })
+    }
+
+    /// What was not to be had, where each call fails for it.
+    pub fn lacking(&self) -> Option<Lacking> {
+        self.shelf.lacking()
     }
 }
 

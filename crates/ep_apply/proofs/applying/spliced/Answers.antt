@@ -2,7 +2,7 @@ use Rattle.std.proofs.Common.{◌≡◌, ◌∙◌, IfSome, length, sym, ap, sub
 use Rattle.ep_cs.specs.Edit.{apply}
 use Rattle.ep_cs.specs.Runs.{cells}
 use Rattle.ep_apply.specs.Documents.{IsDocument}
-use Rattle.ep_parts.specs.Splices.{spliced}
+use Rattle.ep_block_parts.specs.Splices.{spliced}
 use Rattle.ep_apply.proofs.Documents.{document_is, document_made}
 use Rattle.ep_apply.proofs.Walk.{walk_of, length_after}
 use Rattle.ep_apply.proofs.applying.spliced.Goals as goal

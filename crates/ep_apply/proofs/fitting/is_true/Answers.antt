@@ -1,7 +1,7 @@
 use Rattle.std.proofs.Common.{◌≡◌, ◌∙◌, inl, inr, ap, sym}
 use Rattle.ep_cs.specs.declared.op.Kind.{Kind}
 use Rattle.ep_cs.specs.Fitting.{holds, is_true}
-use Rattle.ep_seen.proofs.Texts.{seen_holds}
+use Rattle.ep_block_parts.proofs.Texts.{seen_holds}
 use Rattle.ep_apply.proofs.fitting.is_true.Goals as goal
 
 pub returns-else-op-eq0 : goal.returns-else-op-eq0

@@ -2,8 +2,8 @@ use Rattle.std.proofs.Common.{◌≡◌, ◌≤◌, ◌∙◌, List, length, ap,
 use Rattle.std.specs.Arc.{arc_value}
 use Rattle.ep_cs.specs.Doc.{Cell, text_of}
 use Rattle.ep_cs.specs.Lines.{is_whole_lines}
-use Rattle.ep_seen.proofs.Texts.{tail_none}
-use Rattle.ep_blocks.proofs.Blocks.{last_whole, length_text}
+use Rattle.ep_block_parts.proofs.Texts.{tail_none}
+use Rattle.ep_block_nodes.proofs.Blocks.{last_whole, length_text}
 use Rattle.ep_blocks.proofs.body.are_whole_lines.Goals as goal
 
 pub returns-in-len1-up : goal.returns-in-len1-up

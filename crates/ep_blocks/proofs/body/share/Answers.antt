@@ -1,6 +1,6 @@
 use Rattle.std.proofs.Common.{◌∙◌, ◌++◌, ap}
-use Rattle.ep_blocks.specs.Blocks.{node_cells}
-use Rattle.ep_blocks.proofs.Blocks.{shared}
+use Rattle.ep_block_nodes.specs.Blocks.{node_cells}
+use Rattle.ep_block_nodes.proofs.Blocks.{shared}
 use Rattle.ep_blocks.proofs.body.share.Goals as goal
 
 pub returns : goal.returns

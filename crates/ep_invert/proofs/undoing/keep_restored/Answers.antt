@@ -12,14 +12,6 @@ pub keep_text-requires-clause-inside : goal.keep_text-requires-clause-inside
 keep_text-requires-clause-inside c =
     restored_room c.args.attrs.now c.args.units c.pieces.left c.args.rest.now c.args.out.now c.pieces.out c.pieces.rest _ c.pieces.invariant c.requires.inside c.requires.room c.in-Some.ensures.2
 
-pub pieces-preserved-in_ok-keep_text : goal.pieces-preserved-in_ok-keep_text
-pieces-preserved-in_ok-keep_text c =
-    let s = c.in-Some.stretch in
-    let p : IsPiece c.args.units c.pieces.left c.args.rest.now c.pieces.rest c.take.new.self s.attrs.now s.text.now =
-    record { rest_is = c.pieces.invariant.rest_is; piece = c.in-Some.ensures.0; some = c.in-Some.ensures.1; most = c.in-Some.ensures.2; within = c.pieces.invariant.within } in
-    more_restored c.args.attrs.now c.in_ok-back.back c.args.units c.pieces.left c.args.rest.now c.args.out.now c.pieces.out c.keep_text.new.out c.pieces.rest c.take.new.self s.attrs.now s.text.now
-    c.pieces.invariant p c.in_ok-back.ensures c.in_ok-keep_text.ensures
-
 pub pieces-preserved : goal.pieces-preserved
 pieces-preserved c =
     let s = c.in-Some.stretch in

@@ -1,6 +1,6 @@
 use Rattle.std.proofs.Common.{◌∙◌, ap, subst}
 use Rattle.ep_history.specs.declared.submission.Submission.{Submission}
-use Rattle.ep_message.specs.declared.client.ClientMsg.TheVariants as msgs
+use Rattle.ep_wire_words.specs.declared.client.ClientMsg.TheVariants as msgs
 use Rattle.ep_peer.specs.Parts.{SendsAs}
 use Rattle.ep_peer.specs.Writer.{Commit, Goes, Listening, Reading, Sending, user_changes}
 use Rattle.ep_peer.proofs.Parting.{done_on, err_is, says_err, says_ok}

@@ -1,6 +1,6 @@
 use Rattle.std.proofs.Common.{◌≡◌, ◌∙◌, List, ap, subst, length, arith}
 use Rattle.ep_cs.specs.Change.{Change}
-use Rattle.ep_message.specs.declared.server.ServerMsg.TheVariants as msg
+use Rattle.ep_wire_words.specs.declared.server.ServerMsg.TheVariants as msg
 use Rattle.ep_slider.specs.Slides.{AreSlides}
 use Rattle.ep_session.specs.Session.{counted}
 use Rattle.ep_session.proofs.Running.{shows_part}

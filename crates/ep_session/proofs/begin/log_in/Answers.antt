@@ -1,7 +1,7 @@
 use Rattle.std.proofs.Common.{refl, sym, ap, subst, [], ◌∷◌}
 use Rattle.ep_pad.specs.declared.entries.PadEntry.TheVariants as entry
 use Rattle.ep_pad.specs.declared.entries.PadReply.TheVariants as reply
-use Rattle.ep_message.specs.declared.server.ServerMsg.TheVariants as msg
+use Rattle.ep_wire_words.specs.declared.server.ServerMsg.TheVariants as msg
 use Rattle.ep_session.specs.Says.{SendsAs}
 use Rattle.ep_session.specs.Session.{Called, Login, Fetch, Hear, Say, Then, welcomed, welcome_place, vars}
 use Rattle.ep_session.proofs.Passes.{answered, asked_legal}

@@ -2,7 +2,7 @@ use Rattle.std.proofs.Common.{refl, sym, ap, subst, [], ◌∷◌}
 use Rattle.ep_pad.specs.Asking.{AsksOrLacks}
 use Rattle.ep_pad.specs.declared.entries.PadEntry.TheVariants as entry
 use Rattle.ep_pad.specs.declared.entries.PadReply.TheVariants as reply
-use Rattle.ep_message.specs.declared.server.ServerMsg.TheVariants as msg
+use Rattle.ep_wire_words.specs.declared.server.ServerMsg.TheVariants as msg
 use Rattle.ep_session.specs.Session.{Called, Rejoin, Fetch, Hear, rejoined, rejoin_place}
 use Rattle.ep_session.proofs.Passes.{answered}
 use Rattle.ep_session.proofs.Running.{one_then, err_is, called, called_say, asked_failed, rejoined_none, rejoined_some, same_true, other_false}

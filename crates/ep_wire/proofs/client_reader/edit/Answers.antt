@@ -1,11 +1,11 @@
 use Rattle.std.proofs.Common.{Err, Ok}
 use Rattle.std.proofs.lemmas.Result.{err_from_is_err_and}
 use Rattle.serde_json.specs.View.{view}
-use Rattle.ep_message.specs.Client.{ReadsEdit, edit_members}
-use Rattle.ep_message.specs.declared.client.ClientMsg.TheVariants as msg
-use Rattle.ep_message.specs.Pools.{ReadsChange}
+use Rattle.ep_wire_words.specs.Client.{ReadsEdit, edit_members}
+use Rattle.ep_wire_words.specs.declared.client.ClientMsg.TheVariants as msg
+use Rattle.ep_wire_words.specs.Pools.{ReadsChange}
 use Rattle.ep_wire.specs.Rows.{edit_view}
-use Rattle.ep_message.proofs.Refused.{behind, made_answers, made_refused, step_refused}
+use Rattle.ep_wire_words.proofs.Refused.{behind, made_answers, made_refused, step_refused}
 use Rattle.ep_wire.proofs.client_reader.edit.Goals as goal
 
 pub returns-in_err-members-clause-answer : goal.returns-in_err-members-clause-answer

@@ -6,8 +6,8 @@ use Rattle.ep_wire.proofs.client_writer.edit.Goals as goal
 
 pub returns-clause-tokens : goal.returns-clause-tokens
 returns-clause-tokens c =
-    rw (c.in_ok-end_data.ensures, c.in_ok-word.ensures, c.in_ok-units.ensures, c.in_ok-whole.ensures, c.in_ok-pool.ensures.tokens, c.in_ok-begin_data.ensures, c.in_ok-wire.ensures.text, c.in_ok-wire.ensures.pool)
+    rw (c.in_ok-end_data.ensures, c.in_ok-word.ensures, c.in_ok-based.ensures.tokens, c.in_ok-begin_data.ensures)
     (within c.args.out.now _ (_ ∷ _ ∷ _ ∷ _ ∷ []) (end_object ∷ []) _)
 
 pub returns-clause-back : goal.returns-clause-back
-returns-clause-back c = edit_back c.args.base c.args.change.now (rw c.in_ok-wire.ensures.pool at c.in_ok-pool.ensures.few) (omega arith)
+returns-clause-back c = edit_back c.args.base c.args.change.now c.in_ok-based.ensures.few (omega arith)

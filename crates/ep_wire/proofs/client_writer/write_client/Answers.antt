@@ -1,7 +1,7 @@
 use Rattle.std.proofs.Common.{◌++◌, ap, ◌∙◌}
 use Rattle.json.specs.Print.{print}
 use Rattle.serde_json.proofs.Texts.{print-outline}
-use Rattle.ep_message.specs.ClientJson.{client_json}
+use Rattle.ep_wire_words.specs.ClientJson.{client_json}
 use Rattle.ep_wire.specs.Tokens.{said}
 use Rattle.ep_wire.proofs.Back.{said_read}
 use Rattle.ep_wire.proofs.client_writer.write_client.Goals as goal

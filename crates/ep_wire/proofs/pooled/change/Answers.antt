@@ -1,8 +1,7 @@
 use Rattle.std.proofs.Common.{ap}
 use Rattle.std.proofs.lemmas.Result.{err_from_is_err_and}
 use Rattle.serde_json.specs.View.{view}
-use Rattle.ep_pool.specs.Pool.{Pool}
-use Rattle.ep_message.proofs.Refused.{next_answers, next_refused, pool_refused}
+use Rattle.ep_wire_words.proofs.Refused.{next_answers, next_refused, pool_refused}
 use Rattle.ep_wire.proofs.ReadWith.{few_pairs, sent_with}
 use Rattle.ep_wire.proofs.pooled.change.Goals as goal
 
@@ -22,4 +21,4 @@ returns-clause-answer c =
 
 pub returns-clause-sent : goal.returns-clause-sent
 returns-clause-sent c =
-    sent_with c.in_ok-pool.pool.pairs _ c.in_ok-pool.ensures.texts (few_pairs c.pool.inside.attrs.items c.in_ok-pool.pool.pairs (ap (λ (p : Pool). p.pairs) c.pool.view_is) c.pool.inside.few) c.in_ok-spelled.ensures.read_with
+    sent_with c.in_ok-pool.pool.pairs _ c.in_ok-pool.ensures.texts (few_pairs c.len-pairs.result c.in_ok-pool.pool.pairs c.len-pairs.ensures c.len-pairs.type_inv) c.in_ok-spelled.ensures.read_with

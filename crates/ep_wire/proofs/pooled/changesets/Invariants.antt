@@ -1,7 +1,7 @@
 use Rattle.std.proofs.Common.{◌≡◌, drop}
 use Rattle.std.specs.List.{AllByRecursion}
 use Rattle.serde_json.specs.View.{items_view}
-use Rattle.ep_message.specs.Pools.{all_read}
+use Rattle.ep_wire_words.specs.Pools.{all_read}
 use Rattle.ep_wire.specs.ReadWith.{IsReadWith}
 use Rattle.ep_wire.proofs.Arrays.{with_front}
 use Rattle.ep_wire.proofs.pooled.changesets.Given as goal

@@ -4,11 +4,10 @@ use Rattle.serde_json.specs.View.{view}
 use Rattle.ep_cs.specs.Edit.{apply}
 use Rattle.ep_cs.specs.Fits.{Fits}
 use Rattle.ep_apply.specs.Documents.{insertion}
-use Rattle.ep_pool.specs.Pool.{Pool}
-use Rattle.ep_message.specs.Sent.{IsSent}
+use Rattle.ep_wire_words.specs.Sent.{IsSent}
 use Rattle.ep_wire.proofs.ReadWith.{attribs_with, few_pairs, sent_with}
 use Rattle.ep_wire.proofs.Inserted.{fits_nothing, insertion_is, no_units}
-use Rattle.ep_message.proofs.Refused.{doc_answers_at, doc_refused_at, pool_refused}
+use Rattle.ep_wire_words.proofs.Refused.{doc_answers_at, doc_refused_at, pool_refused}
 use Rattle.ep_wire.proofs.pooled.document.Goals as goal
 
 pub returns-in_err-pool-clause-answer : goal.returns-in_err-pool-clause-answer
@@ -39,6 +38,6 @@ returns-clause-sent c =
     let none = no_units c.in_ok-pool.pool.pairs c.in_ok-text.text c.in_ok-attribs.attribs change c.in_ok-change.ensures.change in
     let made = c.in_ok-apply.ensures ∙ ap (λ d. apply change.edit d) c.empty.ensures in
     let sent =
-    sent_with c.in_ok-pool.pool.pairs change c.in_ok-pool.ensures.texts (few_pairs c.pool.inside.attrs.items c.in_ok-pool.pool.pairs (ap (λ (p : Pool). p.pairs) c.pool.view_is) c.pool.inside.few)
+    sent_with c.in_ok-pool.pool.pairs change c.in_ok-pool.ensures.texts (few_pairs c.len-pairs.result c.in_ok-pool.pool.pairs c.len-pairs.ensures c.len-pairs.type_inv)
     (attribs_with c.in_ok-pool.pool.pairs c.in_ok-text.text c.in_ok-attribs.attribs change c.in_ok-change.ensures.change c.in_ok-text.ensures.text normal) in
     subst (λ d. IsSent (insertion d)) (sym made) (subst IsSent (sym (insertion_is change normal none)) sent)

@@ -1,8 +1,7 @@
 use Rattle.std.proofs.Common.{ap}
 use Rattle.std.proofs.lemmas.Result.{err_from_is_err_and}
 use Rattle.serde_json.specs.View.{items_view, view}
-use Rattle.ep_pool.specs.Pool.{Pool}
-use Rattle.ep_message.proofs.Refused.{first_refused_in, pool_refused, second_refused_in, steps_answers}
+use Rattle.ep_wire_words.proofs.Refused.{first_refused_in, pool_refused, second_refused_in, steps_answers}
 use Rattle.ep_wire.proofs.ReadWith.{all_sent_with, both_with, few_pairs}
 use Rattle.ep_wire.proofs.pooled.steps.Goals as goal
 
@@ -27,5 +26,5 @@ returns-clause-answer c =
 
 pub returns-clause-sent : goal.returns-clause-sent
 returns-clause-sent c =
-    all_sent_with c.in_ok-pool.pool.pairs _ c.in_ok-pool.ensures.texts (few_pairs c.pool.inside.attrs.items c.in_ok-pool.pool.pairs (ap (λ (p : Pool). p.pairs) c.pool.view_is) c.pool.inside.few)
+    all_sent_with c.in_ok-pool.pool.pairs _ c.in_ok-pool.ensures.texts (few_pairs c.len-pairs.result c.in_ok-pool.pool.pairs c.len-pairs.ensures c.len-pairs.type_inv)
     (both_with c.in_ok-pool.pool.pairs c.in_ok-second.second c.in_ok-first.first c.in_ok-second.ensures.read_with c.in_ok-first.ensures.read_with)

@@ -1,10 +1,10 @@
 use Rattle.std.proofs.Common.{Err, Ok}
 use Rattle.std.proofs.lemmas.Result.{err_from_is_err_and}
 use Rattle.serde_json.specs.View.{view}
-use Rattle.ep_message.specs.Server.{ReadsBack, back_members, back_with}
-use Rattle.ep_message.specs.Pools.{ReadsChange}
+use Rattle.ep_wire_words.specs.Server.{ReadsBack, back_members, back_with}
+use Rattle.ep_wire_words.specs.Pools.{ReadsChange}
 use Rattle.ep_wire.specs.ServerRows.{back_view}
-use Rattle.ep_message.proofs.Refused.{behind, made_answers, made_refused, step_refused}
+use Rattle.ep_wire_words.proofs.Refused.{behind, made_answers, made_refused, step_refused}
 use Rattle.ep_wire.proofs.server_reader.reconnect.Goals as goal
 
 pub returns-in_err-members-clause-answer : goal.returns-in_err-members-clause-answer

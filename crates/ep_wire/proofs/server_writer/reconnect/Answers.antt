@@ -6,8 +6,8 @@ use Rattle.ep_wire.proofs.server_writer.reconnect.Goals as goal
 
 pub returns-clause-tokens : goal.returns-clause-tokens
 returns-clause-tokens c =
-    rw (c.in_ok-end_data.ensures, c.in_ok-word.ensures, c.in_ok-session-2.ensures, c.in_ok-whole-4.ensures, c.in_ok-whole-3.ensures, c.in_ok-whole-2.ensures, c.in_ok-session.ensures, c.in_ok-units-2.ensures, c.in_ok-whole.ensures, c.in_ok-units.ensures, c.in_ok-pool.ensures.tokens, c.in_ok-begin_data.ensures, c.in_ok-wire.ensures.text, c.in_ok-wire.ensures.pool)
+    rw (c.in_ok-end_data.ensures, c.in_ok-word.ensures, c.in_ok-session-2.ensures, c.in_ok-whole-3.ensures, c.in_ok-whole-2.ensures, c.in_ok-whole.ensures, c.in_ok-session.ensures, c.in_ok-unheard.ensures.tokens, c.in_ok-begin_data.ensures)
     (within c.args.out.now _ (_ ∷ _ ∷ _ ∷ _ ∷ _ ∷ _ ∷ _ ∷ _ ∷ _ ∷ _ ∷ []) (end_object ∷ []) _)
 
 pub returns-clause-back : goal.returns-clause-back
-returns-clause-back c = reconnect_back c.args.back.current c.args.back.birth c.args.back.head c.args.back.rev c.args.change.now c.args.author.now c.args.session c.args.time (rw c.in_ok-wire.ensures.pool at c.in_ok-pool.ensures.few) (omega arith) (omega arith) (omega arith) (omega arith)
+returns-clause-back c = reconnect_back c.args.back.current c.args.back.birth c.args.back.head c.args.back.rev c.args.change.now c.args.author.now c.args.session c.args.time c.in_ok-unheard.ensures.few (omega arith) (omega arith) (omega arith) (omega arith)

@@ -10,4 +10,4 @@ returns-clause-tokens c =
     (within c.args.out.now _ (_ ∷ _ ∷ _ ∷ _ ∷ _ ∷ _ ∷ []) (end_object ∷ []) _)
 
 pub returns-clause-back : goal.returns-clause-back
-returns-clause-back c = none_back c.args.back.current c.args.back.birth c.args.back.head c.args.back.rev (omega arith) (omega arith) (omega arith)
+returns-clause-back c = none_back c.args.current c.args.birth c.args.head c.args.rev (omega arith) (omega arith) (omega arith)

@@ -1,7 +1,7 @@
 use Rattle.std.proofs.Common.{◌++◌, ap, ◌∙◌}
 use Rattle.json.specs.Print.{print}
 use Rattle.serde_json.proofs.Texts.{print-outline}
-use Rattle.ep_message.specs.ServerJson.{server_json}
+use Rattle.ep_wire_words.specs.ServerJson.{server_json}
 use Rattle.ep_wire.specs.Tokens.{said}
 use Rattle.ep_wire.proofs.Back.{said_read}
 use Rattle.ep_wire.proofs.server_writer.write_server.Goals as goal

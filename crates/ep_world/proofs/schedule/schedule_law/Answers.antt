@@ -15,7 +15,7 @@ nothing-left (x ∷ xs) h = absurd (omega arith)
 pub loop-now-init : goal.loop-now-init
 loop-now-init g c = (
   refl,
-  λ h. record { journal = begun; world = start c.args.limits c.args.id; kepts = nobodies; leads = (refl, refl, refl); run = begins c.args.limits c.args.id; stands = c.in_ok-world.ensures h },
+  λ h. record { journal = begun; world = start c.args.limits c.args.id; kepts = nobodies; leads = (refl, refl, refl); run = begins c.args.limits c.args.id; stands = c.in_ok-world.ensures.begins h },
 )
 
 pub loop-now-preserved : goal.loop-now-preserved

@@ -1,10 +1,12 @@
 use Rattle.std.proofs.Common.{◌≡◌, Err}
 use Rattle.ep_history.specs.Entries.Answer.{CommitAnswer}
+use Rattle.ep_history.specs.Entries.Entry.{Accept}
 use Rattle.ep_history.specs.declared.pad_bad.PadBad.TheVariants as bad
 use Rattle.ep_pad.specs.Standing.{replied}
 use Rattle.ep_step.specs.Telling.{told_by}
 use Rattle.ep_world.specs.Stopping.{BreaksOff, Reopens}
 use Rattle.ep_world.proofs.Crashes.{breaks-first, breaks-none, breaks-unread, if-ok, not-lacking}
+use Rattle.ep_world.proofs.Ending.{breaks-counts, breaks-fails, broken-later, unheard-counts}
 use Rattle.ep_world.proofs.stopping.break_off.Goals as goal
 
 pub returns-in_default-clause-breaks : goal.returns-in_default-clause-breaks
@@ -36,3 +38,23 @@ returns-in-Ok-accept_stopped-clause-breaks g c = λ alone rs pad message e a.
     (replied (λ x. CommitAnswer (told_by x)) t.taken) c.args.calls c.args.image e c.in-Some.is c.in-Ok.is c.ops-normal.ensures.normal a (c.accept_stopped.ensures.alone a.state a.kept a.stands)
     (not-lacking (λ x. CommitAnswer (told_by x)) t.taken heard) (t.ensures.steps a.state a.kept a.stands) (λ m. t.ensures.stops a.state a.kept a.stands m))
     c.unheard.ensures.heard
+
+pub returns-in_default-clause-counts : goal.returns-in_default-clause-counts
+returns-in_default-clause-counts g c = λ alone rs pad message e a.
+    breaks-counts g.D.Disk.told g.D.Device.failures g.D.Disk.stops_alone alone rs pad c.args.now message _ _ c.reopen.result (c.reopen.ensures.counts alone rs pad a)
+
+pub returns-in_default-change-clause-counts : goal.returns-in_default-change-clause-counts
+returns-in_default-change-clause-counts g c = λ alone rs pad message e a.
+    breaks-counts g.D.Disk.told g.D.Device.failures g.D.Disk.stops_alone alone rs pad c.args.now message _ _ c.reopen-in_default-change.result (c.reopen-in_default-change.ensures.counts alone rs pad a)
+
+pub returns-in-Ok-accept_stopped-clause-counts : goal.returns-in-Ok-accept_stopped-clause-counts
+returns-in-Ok-accept_stopped-clause-counts g c = λ alone rs pad message e a.
+    let t = c.in-Ok-accept_stopped in
+    unheard-counts alone rs pad c.args.now message _ _ c.unheard.result
+    (broken-later g.D.Disk.told g.D.Device.failures g.D.Disk.stops_alone alone rs c.args.machine.now c.accept_stopped.new.self pad (Accept c.in-Some.session c.in-Some.sent.base c.in-Ok.change c.args.now) (replied (λ x. CommitAnswer (told_by x)) t.taken) a (t.ensures.steps a.state a.kept a.stands)) c.unheard.ensures.memory
+
+pub returns-in-Err-clause-counts : goal.returns-in-Err-clause-counts
+returns-in-Err-clause-counts g c = λ alone rs pad message e a.
+    rw c.failure.ensures
+    (breaks-fails g.D.Disk.told g.D.Device.failures g.D.Disk.stops_alone alone rs c.args.machine.now c.accept_stopped.new.self pad c.args.now message c.args.first c.in-Some.session c.in-Some.sent c.in-Ok.change c.in-Err.bad e c.in-Some.is c.in-Ok.is
+    c.ops-normal.ensures.normal a (λ m. c.in-Err.ensures.stops a.state a.kept a.stands m))

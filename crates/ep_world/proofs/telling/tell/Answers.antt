@@ -2,6 +2,7 @@ use Rattle.std.proofs.Common.{◌≡◌, Err}
 use Rattle.ep_history.specs.declared.pad_bad.PadBad.TheVariants as bad
 use Rattle.ep_world.specs.Conns.{held_conn}
 use Rattle.ep_world.proofs.Pushes.{tells-dead, tells-fetched}
+use Rattle.ep_world.proofs.Counting.{fetched-counts, unfetched-counts}
 use Rattle.ep_world.proofs.telling.tell.Goals as goal
 
 pub returns-in_ok-tell_next-in-Ok-clause-told : goal.returns-in_ok-tell_next-in-Ok-clause-told
@@ -16,3 +17,23 @@ returns-in_ok-tell_end-in-Err-Dead-clause-told g c = λ alone rs pad a.
     let dead : c.fetch_first.result ≡ Err (bad.Dead c.in-Err-Dead.why) = cc (c.in-Err-Dead.is, c.in-Err-Dead.field-0-is, c.in-Err-Dead.why-is) in
     tells-dead g.D.Disk.told g.D.Device.failures g.D.Disk.stops_alone alone rs c.args.machine.now c.fetch_first.new.self pad c.args.conn.now (held_conn c.conn.inside) c.tell_end.new.conn c.fetch_first.result c.in-Err-Dead.why p.field-0
     c.conn.view_is a (λ st k x. let y = c.fetch_first.ensures st k x in (y.0, y.1, y.2, y.4.alone)) dead p.ensures.pushed p.ensures.told
+
+pub returns-in_ok-tell_next-in-Ok-clause-counts : goal.returns-in_ok-tell_next-in-Ok-clause-counts
+returns-in_ok-tell_next-in-Ok-clause-counts g c = λ alone rs pad a.
+    let i = held_conn c.conn.inside in
+    fetched-counts g.D.Disk.told g.D.Device.failures g.D.Disk.stops_alone alone rs c.args.machine.now c.fetch_first.new.self pad i.session i.sent i.nops 1 c.fetch_first.result c.in-Ok.fetched a
+    (λ st k x. let y = c.fetch_first.ensures st k x in (y.0, y.1, y.2, y.4.alone)) c.in-Ok.is
+
+pub returns-in_ok-tell_end-in-Err-Dead-clause-counts : goal.returns-in_ok-tell_end-in-Err-Dead-clause-counts
+returns-in_ok-tell_end-in-Err-Dead-clause-counts g c = λ alone rs pad a.
+    let i = held_conn c.conn.inside in
+    let dead : c.fetch_first.result ≡ Err (bad.Dead c.in-Err-Dead.why) = cc (c.in-Err-Dead.is, c.in-Err-Dead.field-0-is, c.in-Err-Dead.why-is) in
+    (unfetched-counts g.D.Disk.told g.D.Device.failures g.D.Disk.stops_alone alone rs c.args.machine.now c.fetch_first.new.self pad i.session i.sent i.nops 1 c.fetch_first.result (bad.Dead c.in-Err-Dead.why) a
+    (λ st k x. let y = c.fetch_first.ensures st k x in (y.0, y.1, y.2, y.4.alone)) dead).0
+
+pub returns-in-Err-clause-counts : goal.returns-in-Err-clause-counts
+returns-in-Err-clause-counts g c = λ alone rs pad a.
+    let i = held_conn c.conn.inside in
+    rw c.failure.ensures
+    ((unfetched-counts g.D.Disk.told g.D.Device.failures g.D.Disk.stops_alone alone rs c.args.machine.now c.fetch_first.new.self pad i.session i.sent i.nops 1 c.fetch_first.result c.in-Err.bad a
+    (λ st k x. let y = c.fetch_first.ensures st k x in (y.0, y.1, y.2, y.4.alone)) c.in-Err.is).1)

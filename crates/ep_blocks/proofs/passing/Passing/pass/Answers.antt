@@ -1,7 +1,7 @@
 use Rattle.std.proofs.Common.{◌≡◌, ◌∙◌, ℕ, take, drop, ap, sym, subst, arith, drop-drop}
 use Rattle.std.proofs.Math.Seq.{take-add}
-use Rattle.ep_seen.specs.Seen.{Sees}
-use Rattle.ep_seen.proofs.Texts.{few_lines}
+use Rattle.ep_block_parts.specs.Seen.{Sees}
+use Rattle.ep_block_parts.proofs.Texts.{few_lines}
 use Rattle.ep_blocks.proofs.passing.Passing.pass.Goals as goal
 
 pub then-seen-requires-clause-lines : goal.then-seen-requires-clause-lines

@@ -1,5 +1,5 @@
 use Rattle.std.proofs.Common.{◌≡◌, ◌≤◌, ◌-◌, take, drop}
-use Rattle.ep_seen.specs.Seen.{Sees}
+use Rattle.ep_block_parts.specs.Seen.{Sees}
 use Rattle.ep_blocks.proofs.passing.Passing.pass.Given as goal
 
 abbrev pub invariant-pieces : goal.invariant-pieces

@@ -2,9 +2,9 @@ use Rattle.std.proofs.Common.{◌≡◌, ◌∙◌, ◌++◌, take, drop, ap, sy
 use Rattle.std.specs.Arc.{arc_value}
 use Rattle.ep_units.specs.Text.{Text}
 use Rattle.ep_cs.specs.Doc.{text_of}
-use Rattle.ep_seen.specs.Seen.{Sees}
-use Rattle.ep_seen.proofs.Texts.{few_lines}
-use Rattle.ep_blocks.proofs.Blocks.{no_units, text_take, text_drop, text-append, front_seen, front_left}
+use Rattle.ep_block_parts.specs.Seen.{Sees}
+use Rattle.ep_block_parts.proofs.Texts.{few_lines}
+use Rattle.ep_block_nodes.proofs.Blocks.{no_units, text_take, text_drop, text-append, front_seen, front_left}
 use Rattle.ep_blocks.proofs.passing.Passing.pass_piece.Goals as goal
 
 pub returns-then-seen-most-clause-seen : goal.returns-then-seen-most-clause-seen

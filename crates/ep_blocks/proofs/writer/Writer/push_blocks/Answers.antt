@@ -1,6 +1,6 @@
 use Rattle.std.proofs.Common.{ap, arith, length, length-append}
-use Rattle.ep_blocks.specs.Blocks.{all_cells, its_own}
-use Rattle.ep_blocks.proofs.Blocks.{node_room}
+use Rattle.ep_block_nodes.specs.Blocks.{all_cells, its_own}
+use Rattle.ep_block_nodes.proofs.Blocks.{node_room}
 use Rattle.ep_blocks.proofs.writer.Writer.push_blocks.Goals as goal
 
 pub share_blocks-requires : goal.share_blocks-requires

@@ -1,5 +1,5 @@
 use Rattle.std.proofs.Common.{◌≡◌, ◌++◌, length}
-use Rattle.ep_blocks.specs.Blocks.{all_cells}
+use Rattle.ep_block_nodes.specs.Blocks.{all_cells}
 use Rattle.ep_blocks.proofs.writer.Writer.push_groups.Given as goal
 
 abbrev pub invariant-pieces : goal.invariant-pieces

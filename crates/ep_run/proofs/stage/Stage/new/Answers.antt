@@ -10,6 +10,6 @@ use Rattle.ep_run.proofs.stage.Stage.new.Goals as goal
 pub returns : goal.returns
 returns g c = λ h mark. record {
   run = begins play_limits c.args.id;
-  world = subst (λ b. StandsFor g.D.Disk.told g.D.Device.failures g.D.Disk.stops_alone b begun c.in_ok-world.world (start play_limits c.args.id) nobodies) mark (c.in_ok-world.ensures h);
+  world = subst (λ b. StandsFor g.D.Disk.told g.D.Device.failures g.D.Disk.stops_alone b begun c.in_ok-world.world (start play_limits c.args.id) nobodies) mark (c.in_ok-world.ensures.begins h);
   pool = search rules;
 }

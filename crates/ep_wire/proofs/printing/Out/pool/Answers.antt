@@ -1,10 +1,9 @@
-use Rattle.std.proofs.Common.{◌≡◌, [], ◌∷◌, codes, length, option_and_then, ap, ◌∙◌, rules}
+use Rattle.std.proofs.Common.{◌≡◌, codes, length, option_and_then, ap, ◌∙◌, rules}
 use Rattle.std.proofs.lemmas.Option.{same_Some}
 use Rattle.serde_json.specs.Data.{no_members}
 use Rattle.serde_json.specs.Find.{as_object, get}
 use Rattle.serde_json.specs.View.{members_view}
 use Rattle.ep_pool.specs.Json.{numbered}
-use Rattle.ep_wire.proofs.Glue.{glue}
 use Rattle.ep_wire.proofs.printing.Out.pool.Goals as goal
 
 pub returns-clause-tokens : goal.returns-clause-tokens
@@ -13,5 +12,4 @@ returns-clause-tokens c =
     let entries : members_view c.in-Some.entries.now.entries ≡ numbered no_members 0 pairs =
     same_Some _ _ (c.in-Some.ensures ∙ ap (λ d. option_and_then as_object (get (codes "numToAttrib") d)) c.in_ok-json.ensures) in
     let count : c.from.result ≡ length pairs = search rules in
-    rw (c.in_ok-end.ensures, c.in_ok-entries.ensures, entries, c.in_ok-begin.ensures, c.in_ok-put-2.ensures, c.in_ok-number.ensures, count, c.in_ok-put.ensures, c.in_ok-open.ensures)
-    (glue c.args.self.now (_ ∷ _ ∷ _ ∷ _ ∷ _ ∷ _ ∷ _ ∷ []))
+    rw (c.in_ok-pool_of.ensures, entries, count)

@@ -4,7 +4,7 @@ use Rattle.json.specs.Tree.{items_tokens}
 use Rattle.serde_json.specs.View.{items_of}
 use Rattle.serde_json.specs.Written.{items_outline}
 use Rattle.ep_units.specs.Text.{Text}
-use Rattle.ep_message.specs.Json.{text}
+use Rattle.ep_wire_words.specs.Json.{text}
 use Rattle.ep_wire.proofs.printing.Out.texts.Given as goal
 
 -- the tokens of these texts, up to the end of their array

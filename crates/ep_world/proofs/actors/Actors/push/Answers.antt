@@ -22,3 +22,6 @@ returns-clause-unknown g c = unknown-by c.push.result c.push.ensures.unknown (λ
     let same = same-place c.args.self.now c.self.inside.slots.items c.args.name.now c.in-Some.place c.index_mut.result.now c.push.new.self
     (sym c.in-Some.ensures) c.self.view_is c.index_mut.ensures.value h.0 h.1 in
     (same.0, same.1, h.2))
+
+pub returns-clause-counts : goal.returns-clause-counts
+returns-clause-counts g c = λ alone rs pad a. c.push.ensures.counts alone rs pad a

@@ -1,4 +1,4 @@
-use Rattle.std.proofs.Common.{refl, sym, ap, ◌∙◌, subst}
+use Rattle.std.proofs.Common.{refl, sym, ap, ◌∙◌, subst, Some}
 use Rattle.ep_history.specs.Entries.Answer.{LoginAnswer}
 use Rattle.ep_history.specs.Entries.Entry.{Login}
 use Rattle.ep_schedule.specs.World.{grant_of}
@@ -9,10 +9,12 @@ use Rattle.ep_world.specs.Actors.{is_a_client}
 use Rattle.ep_world.specs.Standing.{IsAnswered}
 use Rattle.ep_world.proofs.Calls.{answered}
 use Rattle.ep_world.proofs.Entered.{client-known, visited, visit-refused}
+use Rattle.ep_event.specs.declared.event.Event.TheVariants as told
+use Rattle.ep_world.proofs.Counting.{err-counts, refused-ends}
 use Rattle.ep_world.proofs.world.World.visit.Goals as goal
 
-pub returns-in-Ok : goal.returns-in-Ok
-returns-in-Ok g c = λ alone rs w ks run s.
+pub returns-in-Ok-clause-plays : goal.returns-in-Ok-clause-plays
+returns-in-Ok-clause-plays g c = λ alone rs w ks run s.
     let old = c.args.self.now in
     let new : World g.row.D.Denot = record { alloc = old.alloc; id = old.id; machine = c.login.new.self; actors = c.receive.new.actors } in
     let i = sym (client-known (w.actors c.args.name) (ks c.args.name)) ∙ ap is_a_client (sym (s.actors c.args.name)) ∙ sym c.is_client.ensures ∙ c.if-is_client.false in
@@ -22,8 +24,8 @@ returns-in-Ok g c = λ alone rs w ks run s.
     (rw c.visit_verb-verb.ensures (visited g.D.Disk.told g.D.Device.failures g.D.Disk.stops_alone alone rs old new w ks c.args.now c.args.name c.args.read_only c.in-Ok.welcome i s
     (subst (λ r. IsAnswered g.D.Disk.told g.D.Device.failures g.D.Disk.stops_alone alone rs old.machine w.pad (Login (grant_of w c.args.name c.args.read_only) c.args.now) (replied (λ x. LoginAnswer (welcome_of x)) r) new.machine) c.in-Ok.is b) refl c.in_ok-receive-in-Ok.ensures.put))
 
-pub returns : goal.returns
-returns g c = λ alone rs w ks run s.
+pub returns-clause-plays : goal.returns-clause-plays
+returns-clause-plays g c = λ alone rs w ks run s.
     let old = c.args.self.now in
     let new : World g.row.D.Denot = record { alloc = old.alloc; id = old.id; machine = c.login.new.self; actors = old.actors } in
     let i = sym (client-known (w.actors c.args.name) (ks c.args.name)) ∙ ap is_a_client (sym (s.actors c.args.name)) ∙ sym c.is_client.ensures ∙ c.if-is_client.false in
@@ -32,3 +34,10 @@ returns g c = λ alone rs w ks run s.
     rw c.refused.ensures
     (rw c.visit_verb-verb.ensures (visit-refused g.D.Disk.told g.D.Device.failures g.D.Disk.stops_alone alone rs old new w ks c.args.now c.args.name c.args.read_only c.in-Err.bad i s
     (subst (λ r. IsAnswered g.D.Disk.told g.D.Device.failures g.D.Disk.stops_alone alone rs old.machine w.pad (Login (grant_of w c.args.name c.args.read_only) c.args.now) (replied (λ x. LoginAnswer (welcome_of x)) r) new.machine) c.in-Err.is b) refl refl))
+
+pub returns-clause-ends : goal.returns-clause-ends
+returns-clause-ends g c = λ alone rs w ks run s.
+    rw c.refused.ensures
+    (refused-ends alone rs w c.args.now (told.Guest c.args.name c.args.read_only) _ _ _ (Some c.args.name) c.in-Err.bad
+    (err-counts g.D.Disk.told g.D.Device.failures g.D.Disk.stops_alone alone rs c.args.self.now.machine c.login.new.self w.pad (Login c.in_ok-grant.grant c.args.now) (λ x. LoginAnswer (welcome_of x)) c.login.result c.in-Err.bad s.machine
+    (λ st k x. let y = c.login.ensures st k x in (y.0, y.1, y.2, y.4.alone)) c.in-Err.is))

@@ -1,0 +1,4 @@
+pub mod Spans
+pub mod Inside
+pub mod Splices
+pub mod Seen

@@ -1,9 +1,0 @@
-use Rattle.std.proofs.Common.{◌≡◌, ◌++◌, length}
-use Rattle.ep_blocks.specs.Blocks.{all_cells}
-use Rattle.ep_blocks.proofs.pile.Pile.add_all.Given as goal
-
-abbrev pub invariant-fronts : goal.invariant-fronts
-invariant-fronts l = l.self ++ all_cells l.rest ≡ l.initial.self ++ all_cells l.blocks
-
-abbrev pub decreases-fronts : goal.decreases-fronts
-decreases-fronts l = length l.rest

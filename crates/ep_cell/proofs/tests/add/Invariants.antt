@@ -1,5 +1,0 @@
-use Rattle.ep_cell.specs.Passes.{IsOf}
-use Rattle.ep_cell.proofs.tests.add.Given as goal
-
-abbrev pub invariant-loop : goal.invariant-loop
-invariant-loop g l = IsOf l.cell l.pass

@@ -1,5 +1,0 @@
-use Rattle.std.proofs.Common.{[], refl}
-use Rattle.ep_http.proofs.tests.AnsweredSink.write.Goals as goal
-
-pub returns-then-self-clause-err : goal.returns-then-self-clause-err
-returns-then-self-clause-err c = (c.args.bytes.now, record { gone = []; whole = refl; takes = tt })

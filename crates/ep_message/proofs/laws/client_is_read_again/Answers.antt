@@ -1,5 +1,0 @@
-use Rattle.ep_message.proofs.ClientAgain.{client_again}
-use Rattle.ep_message.proofs.laws.client_is_read_again.Goals as goal
-
-pub returns : goal.returns
-returns c = client_again

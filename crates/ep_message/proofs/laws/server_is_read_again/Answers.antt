@@ -1,5 +1,0 @@
-use Rattle.ep_message.proofs.ServerAgain.{server_again}
-use Rattle.ep_message.proofs.laws.server_is_read_again.Goals as goal
-
-pub returns : goal.returns
-returns c = server_again

@@ -1,8 +1,0 @@
-use Rattle.std.proofs.Common.{◌≡◌, ◌++◌, drop}
-use Rattle.std.specs.List.{slice_split}
-use Rattle.ep_message.specs.Sessions.{is_comma}
-use Rattle.ep_message.proofs.Commas.{behind}
-use Rattle.ep_message.proofs.session.pieces.Given as goal
-
-abbrev pub invariant-loop-unit : goal.invariant-loop-unit
-invariant-loop-unit l = l.ids ++ behind l.id (slice_split is_comma (drop l.unit-index l.text)) ≡ slice_split is_comma l.text

@@ -1,6 +1,0 @@
-use Rattle.std.proofs.Common.{◌≡◌}
-use Rattle.ep_revs.specs.Revisions.{last_doc}
-use Rattle.ep_revs.proofs.tests.revisions.Given as goal
-
-abbrev pub invariant-loop : goal.invariant-loop
-invariant-loop l = l.doc ≡ last_doc l.revs.revs

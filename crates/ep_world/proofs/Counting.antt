@@ -1,0 +1,393 @@
+-- The count of faults of a machine's disk over a call, and why a call fails.
+use Rattle.std.proofs.Common.{◌≡◌, ℕ, ◌≤◌, ◌<◌, ◌-◌, ◌^◌, Bool, true, false, List, [], ◌∷◌, Option, Some, None, Result, Ok, Err, inl, inr, ◌⊎◌, if◌then◌else◌, refl, sym, ap, ◌∙◌, subst, arith}
+use Rattle.std.specs.Prelude.{IfErr, MatchResult}
+use Rattle.ep_units.specs.declared.session.Session.{Session}
+use Rattle.ep_outside.specs.Disk.{Contents}
+use Rattle.ep_cs.specs.Change.{Change}
+use Rattle.ep_cs.specs.declared.bad.FitBad.{FitBad}
+use Rattle.ep_history.specs.Accept.{author_fault, edit_faults, fit_fault, live_fault, refusal, seat_fault}
+use Rattle.ep_history.specs.Entries.{Answer, Entry, Outcome, Reply, is_recordable, logs_in, outcome, unless}
+use Rattle.ep_history.specs.Entries.Answer.{FetchAnswer}
+use Rattle.ep_history.specs.Entries.Entry.{Login, Resume, Accept, Fetch, Leave, Create, SetText, Delete, SetPublic, ReadText, ReadHistory, ReadStatus}
+use Rattle.ep_history.specs.Entries.Outcome.{Refuses, Answers, Records}
+use Rattle.ep_history.specs.Machine.{MachineState, IsClosedStep, IsFoundStep, IsKeptState, IsOpenStep, IsStep, IsStepAs, IsThen, journal_fault, keeping, open_record, reopening, settled, turn_of}
+use Rattle.ep_history.specs.Machine.IsOpenStep.{Does, Lacks, Fails}
+use Rattle.ep_history.specs.Machine.IsFoundStep.{Opens, IsFull, FailsOpened}
+use Rattle.ep_history.specs.Machine.IsClosedStep.{Finds, LacksOpening, FailsOpening}
+use Rattle.ep_history.specs.Pad.{PadState, seat_of}
+use Rattle.ep_history.specs.Readings.{dead_fault, dead_if, fetch_fault, fetch_faults, history_fault, history_faults, text_fault, text_faults}
+use Rattle.ep_history.specs.Refusals.{fault_if, first_fault, login_fault, login_faults, resume_fault, resume_faults}
+use Rattle.ep_history.specs.Server.{create_fault, create_faults, gone_fault, set_fault, set_faults}
+use Rattle.ep_history.specs.declared.pad_bad.PadBad.{PadBad}
+use Rattle.ep_history.specs.declared.pad_bad.PadBad.TheVariants as bad
+use Rattle.ep_history.specs.declared.record.Record.{Record}
+use Rattle.ep_history.specs.declared.seat.Seat.{Seat}
+use Rattle.ep_history.specs.declared.seat.Why.{Why}
+use Rattle.ep_pad.specs.Crashes.{IsStepOfFirst}
+use Rattle.ep_pad.specs.Held.{Held}
+use Rattle.ep_pad.specs.Opening.{HasRisenTo, Sleeps}
+use Rattle.ep_pad.specs.Standing.{Stands, replied}
+use Rattle.ep_pad_file.specs.Standing.{size}
+use Rattle.ep_pad_state.specs.declared.answers.Fetched.{Fetched}
+use Rattle.ep_schedule.specs.World.{Name, WorldState}
+use Rattle.ep_event.specs.declared.event.Event.{Event as Told}
+use Rattle.ep_event.specs.declared.event.Event.TheVariants as told
+use Rattle.ep_event.specs.declared.shown.Shown.{Shown}
+use Rattle.ep_event.specs.declared.shown.Verb.{Verb}
+use Rattle.ep_world.specs.declared.bad.WorldBad.{WorldBad}
+use Rattle.ep_world.specs.declared.bad.WorldBad.TheVariants as world_bad
+use Rattle.ep_world.specs.Counting.{Counts}
+use Rattle.ep_world.specs.Failing.{IsCaused, failed, shown_or_failed}
+use Rattle.ep_world.specs.Standing.{IsAt, IsEnded, Said}
+use Rattle.ep_world.specs.Taking.{not_made}
+use Rattle.ep_world.proofs.Calls.{MakesMarked, journal-full}
+
+-- ---- refusals by the rules
+
+-- it is neither the store's nor the journal's
+abbrev pub IsPlain : PadBad → Type 0
+IsPlain (bad.Store n) = ⊥
+IsPlain (bad.JournalFull n) = ⊥
+IsPlain b = Unit {0}
+
+abbrev pub IsPlainIf : Option PadBad → Type 0
+IsPlainIf None = Unit {0}
+IsPlainIf (Some b) = IsPlain b
+
+abbrev ArePlain : List (Option PadBad) → Type 0
+ArePlain [] = Unit {0}
+ArePlain (f ∷ fs) = IsPlainIf f × ArePlain fs
+
+first-plain : (fs : List (Option PadBad)) → ArePlain fs → IsPlainIf (first_fault fs)
+first-plain [] p = tt
+first-plain (None ∷ fs) p = first-plain fs p.1
+first-plain (Some b ∷ fs) p = p.0
+
+if-plain : (t : Bool) (b : PadBad) → IsPlain b → IsPlainIf (fault_if t b)
+if-plain true b p = p
+if-plain false b p = tt
+
+dead-plain : (o : Option Why) → IsPlainIf (dead_if o)
+dead-plain None = tt
+dead-plain (Some why) = tt
+
+refusal-plain : (pad : PadState) (s : Session) (base : ℕ) (c : Change) → IsPlainIf (refusal pad s base c)
+refusal-plain pad s base c = seat (seat_of pad s)
+  where
+    author : (o : Option ℕ) → IsPlainIf (author_fault o)
+    author None = tt
+    author (Some i) = tt
+
+    fits : (o : Option FitBad) → IsPlainIf (fit_fault o)
+    fits None = tt
+    fits (Some why) = tt
+
+    live : (l : Seat) (o : Option Why) → IsPlainIf (live_fault pad l o base c)
+    live l (Some why) = tt
+    live l None = first-plain (edit_faults pad l base c) (if-plain _ _ tt, (if-plain _ _ tt, (author _, (fits _, (if-plain _ _ tt, tt)))))
+
+    seat : (o : Option Seat) → IsPlainIf (seat_fault pad o base c)
+    seat None = tt
+    seat (Some l) = live l l.end
+
+-- so is the refusal of an entry
+abbrev pub IsPlainOutcome : Outcome → Type 0
+IsPlainOutcome (Refuses b) = IsPlain b
+IsPlainOutcome (Answers a p) = Unit {0}
+IsPlainOutcome (Records r a p) = Unit {0}
+
+unless-plain : (f : Option PadBad) (o : Outcome) → IsPlainIf f → IsPlainOutcome o → IsPlainOutcome (unless f o)
+unless-plain None o p q = q
+unless-plain (Some b) o p q = p
+
+pub outcome-plain : (pad : PadState) (e : Entry) → IsPlainOutcome (outcome pad e)
+outcome-plain pad (Login g now) =
+    unless-plain (login_fault pad g) (logs_in pad g now)
+    (first-plain (login_faults pad g) (if-plain _ _ tt, (if-plain _ _ tt, (if-plain _ _ tt, (if-plain _ _ tt, tt)))))
+    (one-of pad.present _ _ tt tt)
+  where
+    one-of : (t : Bool) (x y : Outcome) → IsPlainOutcome x → IsPlainOutcome y → IsPlainOutcome (if t then x else y)
+    one-of true x y p q = p
+    one-of false x y p q = q
+outcome-plain pad (Resume g rev birth author now) =
+    unless-plain (resume_fault pad g rev birth author) _
+    (first-plain (resume_faults pad g rev birth author) (if-plain _ _ tt, (if-plain _ _ tt, (if-plain _ _ tt, (if-plain _ _ tt, (if-plain _ _ tt, (if-plain _ _ tt, tt))))))) tt
+outcome-plain pad (Accept s base c now) = unless-plain (refusal pad s base c) _ (refusal-plain pad s base c) tt
+outcome-plain pad (Fetch s from told) = unless-plain (fetch_fault pad s from) _ (first-plain (fetch_faults pad s from) (dead-plain _, (if-plain _ _ tt, tt))) tt
+outcome-plain pad (Leave s) = unless-plain (dead_fault pad s) _ (dead-plain _) tt
+outcome-plain pad (Create text now) = unless-plain (create_fault pad text) _ (first-plain (create_faults pad text) (if-plain _ _ tt, (if-plain _ _ tt, tt))) tt
+outcome-plain pad (SetText text now) = unless-plain (set_fault pad text) _ (first-plain (set_faults pad text) (if-plain _ _ tt, (if-plain _ _ tt, tt))) tt
+outcome-plain pad (Delete now) = unless-plain (gone_fault pad) _ (if-plain _ _ tt) tt
+outcome-plain pad (SetPublic on) = unless-plain (gone_fault pad) _ (if-plain _ _ tt) tt
+outcome-plain pad (ReadText rev) = unless-plain (text_fault pad rev) _ (first-plain (text_faults pad rev) (if-plain _ _ tt, (if-plain _ _ tt, tt))) tt
+outcome-plain pad (ReadHistory s start count) = unless-plain (history_fault pad s start) _ (first-plain (history_faults pad s start) (dead-plain _, (if-plain _ _ tt, tt))) tt
+outcome-plain pad ReadStatus = unless-plain (gone_fault pad) _ (if-plain _ _ tt) tt
+
+-- ---- entries that record nothing
+
+abbrev pub IsReading : Outcome → Type 0
+IsReading (Refuses b) = IsPlain b
+IsReading (Answers a p) = Unit {0}
+IsReading (Records r a p) = ⊥
+
+unless-reading : (f : Option PadBad) (a : Answer) (p : PadState) → IsPlainIf f → IsReading (unless f (Answers a p))
+unless-reading None a p q = tt
+unless-reading (Some b) a p q = q
+
+pub status-reads : (pad : PadState) → IsReading (outcome pad ReadStatus)
+status-reads pad = unless-reading (gone_fault pad) _ _ (if-plain _ _ tt)
+
+pub text-reads : (pad : PadState) (rev : Option ℕ) → IsReading (outcome pad (ReadText rev))
+text-reads pad rev = unless-reading (text_fault pad rev) _ _ (first-plain (text_faults pad rev) (if-plain _ _ tt, (if-plain _ _ tt, tt)))
+
+pub leave-reads : (pad : PadState) (s : Session) → IsReading (outcome pad (Leave s))
+leave-reads pad s = unless-reading (dead_fault pad s) _ _ (dead-plain _)
+
+pub fetch-reads : (pad : PadState) (s : Session) (from told : ℕ) → IsReading (outcome pad (Fetch s from told))
+fetch-reads pad s from told = unless-reading (fetch_fault pad s from) _ _ (first-plain (fetch_faults pad s from) (dead-plain _, (if-plain _ _ tt, tt)))
+
+-- ---- a step of a machine
+
+-- a refusal: the count rose to this where it is the store's, and else it doesn't fall
+abbrev pub BadCounts : ℕ → ℕ → PadBad → Type 0
+BadCounts before now (bad.Store n) = HasRisenTo before now n
+BadCounts before now b = before ≤ now
+
+abbrev pub ReplyCounts : ℕ → ℕ → Reply → Type 0
+ReplyCounts before now (Ok a) = before ≤ now
+ReplyCounts before now (Err b) = BadCounts before now b
+
+plain-counts : (before now : ℕ) (b : PadBad) → IsPlain b → before ≤ now → BadCounts before now b
+plain-counts before now (bad.Store n) p h = absurd p
+plain-counts before now b p h = h
+
+turned-counts : (st next : MachineState) (can : Bool) (o : Outcome) (reply : Reply) → IsPlainOutcome o → reply ≡ (turn_of size st can o).reply → IsThen (turn_of size st can o).state next
+    → ReplyCounts st.faults next.faults reply
+turned-counts st next can (Refuses b) reply p q t = subst (ReplyCounts st.faults next.faults) (sym q) (plain-counts st.faults next.faults b p t.1)
+turned-counts st next can (Answers a pad) reply p q t = subst (ReplyCounts st.faults next.faults) (sym q) t.1
+turned-counts st next false (Records r a pad) reply p q t = subst (ReplyCounts st.faults next.faults) (sym q) t.1
+turned-counts st next true (Records r a pad) reply p q t = keeps (journal_fault size st r) refl q t
+  where
+    keeps : (f : Option PadBad) → journal_fault size st r ≡ f → reply ≡ (keeping st f r a pad).reply → IsThen (keeping st f r a pad).state next → ReplyCounts st.faults next.faults reply
+    keeps None j q t = subst (ReplyCounts st.faults next.faults) (sym q) t.1
+    keeps (Some full) j q t = let f = journal-full st r full j in subst (ReplyCounts st.faults next.faults) (sym (q ∙ ap Err f.1)) t.1
+
+pub step-counts : (st next : MachineState) (e : Entry) (reply : Reply) → IsOpenStep size st e reply next → ReplyCounts st.faults next.faults reply
+step-counts st next e reply (Does r t) = turned-counts st next (is_recordable e) (outcome st.pad e) reply (outcome-plain st.pad e) r t
+step-counts st next e reply (Lacks r t) = subst (ReplyCounts st.faults next.faults) (sym r) t.1
+step-counts st next e reply (Fails count r adds q h t) = subst (ReplyCounts st.faults next.faults) (sym q) record { is = h.0; risen = h.1 }
+
+-- where nothing is recorded the journal's limit refuses nothing
+never-full : (st next : MachineState) (e : Entry) (n : ℕ) → IsReading (outcome st.pad e) → IsOpenStep size st e (Err (bad.JournalFull n)) next → ⊥
+never-full st next e n reads (Lacks r t) = cc
+never-full st next e n reads (Fails count r adds q h t) = cc
+never-full st next e n reads (Does r t) = go (outcome st.pad e) reads r
+  where
+    same : (b : PadBad) → ◌≡◌ {A = Reply} (Err (bad.JournalFull n)) (Err b) → bad.JournalFull n ≡ b
+    same b q = cc
+
+    other : (a : Answer) → ◌≡◌ {A = Reply} (Err (bad.JournalFull n)) (Ok a) → ⊥
+    other a q = cc
+
+    go : (o : Outcome) → IsReading o → Err (bad.JournalFull n) ≡ (turn_of size st (is_recordable e) o).reply → ⊥
+    go (Refuses b) p q = subst IsPlain (sym (same b q)) p
+    go (Answers a pad) p q = other a q
+    go (Records r a pad) p q = p
+
+-- ---- a machine that doesn't wake
+
+pub sleeps-store : (st next : MachineState) (n : ℕ) → Sleeps st (bad.Store n) next → HasRisenTo st.faults next.faults n
+sleeps-store st next n s = go (s.1 ReadStatus)
+  where
+    of : (k : Bool) → (settled k st).faults ≡ st.faults
+    of true = refl
+    of false = refl
+
+    reopened-of : (k : Bool) → (reopening (settled k st)).faults ≡ st.faults
+    reopened-of true = refl
+    reopened-of false = refl
+
+    risen : (count : ℕ) → ◌≡◌ {A = Reply} (Err (bad.Store n)) (Err (bad.Store count)) → (from : ℕ) → from ≡ st.faults
+        → (next.faults ≡ count) × ((from < count) ⊎ (count ≡ 2 ^ 64 - 1)) → HasRisenTo st.faults next.faults n
+    risen count q from e h =
+        let same : count ≡ n = cc in
+        subst (λ (k : ℕ). HasRisenTo st.faults next.faults k) same (subst (λ (k : ℕ). HasRisenTo k next.faults count) e (record { is = h.0; risen = h.1 }))
+
+    found : (k : Bool) → IsFoundStep size (settled k st) ReadStatus (Err (bad.Store n)) next → HasRisenTo st.faults next.faults n
+    found k (Opens fits step) = subst (λ (f : ℕ). HasRisenTo f next.faults n) (reopened-of k) (step-counts (reopening (settled k st)) next ReadStatus (Err (bad.Store n)) step)
+    found k (IsFull full j r t) = let f = journal-full (settled k st) (open_record (settled k st)) full j in absurd (unlike (r ∙ ap Err f.1))
+      where
+        unlike : {m : ℕ} → ◌≡◌ {A = Reply} (Err (bad.Store n)) (Err (bad.JournalFull m)) → ⊥
+        unlike q = cc
+    found k (FailsOpened count j r h t) = risen count r (settled k st).faults (of k) h
+
+    go : IsClosedStep size st ReadStatus (Err (bad.Store n)) next → HasRisenTo st.faults next.faults n
+    go (Finds k step) = found k step
+    go (LacksOpening r t) = absurd cc
+    go (FailsOpening count r h t) = risen count r st.faults refl h
+
+pub sleeps-full : (st next : MachineState) (n : ℕ) → Sleeps st (bad.JournalFull n) next
+    → (k : Bool) × (journal_fault size (settled k st) (open_record (settled k st)) ≡ Some (bad.JournalFull n))
+sleeps-full st next n s = go (s.1 ReadStatus)
+  where
+    found : (k : Bool) → IsFoundStep size (settled k st) ReadStatus (Err (bad.JournalFull n)) next
+        → (k : Bool) × (journal_fault size (settled k st) (open_record (settled k st)) ≡ Some (bad.JournalFull n))
+    found k (Opens fits step) = absurd (never-full (reopening (settled k st)) next ReadStatus n (status-reads (reopening (settled k st)).pad) step)
+    found k (IsFull full j r t) = let same : full ≡ bad.JournalFull n = cc in (k, j ∙ ap Some same)
+    found k (FailsOpened count j r h t) = absurd cc
+
+    go : IsClosedStep size st ReadStatus (Err (bad.JournalFull n)) next → (k : Bool) × (journal_fault size (settled k st) (open_record (settled k st)) ≡ Some (bad.JournalFull n))
+    go (Finds k step) = found k step
+    go (LacksOpening r t) = absurd cc
+    go (FailsOpening count r h t) = absurd cc
+
+-- ---- counts that follow one another
+
+pub risen-from : (a b c n : ℕ) → a ≤ b → HasRisenTo b c n → HasRisenTo a c n
+risen-from a b c n h r = record { is = r.is; risen = go r.risen }
+  where
+    go : (b < n) ⊎ (n ≡ 2 ^ 64 - 1) → (a < n) ⊎ (n ≡ 2 ^ 64 - 1)
+    go (inl l) = inl (omega (arith, l, h))
+    go (inr e) = inr e
+
+pub caused-from : (a b c : ℕ) (x : WorldBad) → a ≤ b → IsCaused b c x → IsCaused a c x
+caused-from a b c (world_bad.Store n) h r = risen-from a b c n h r
+caused-from a b c (world_bad.Full n) h r = r
+caused-from a b c world_bad.Unknown h r = tt
+caused-from a b c world_bad.NoText h r = tt
+caused-from a b c world_bad.NoMemory h r = tt
+
+pub counts-from : {A : Type 0} (a b c : ℕ) (r : Result A WorldBad) → a ≤ b → Counts b c r → Counts a c r
+counts-from a b c (Ok x) h r = omega (arith, h, r)
+counts-from a b c (Err x) h r = caused-from a b c x h r
+
+-- a failure below is one of the world
+pub failed-caused : (before now : ℕ) (b : PadBad) → ((n : ℕ) → b ≡ bad.JournalFull n → ⊥) → BadCounts before now b → IsCaused before now (failed b)
+failed-caused before now (bad.Store n) f h = h
+failed-caused before now (bad.JournalFull n) f h = f n refl
+failed-caused before now b f h = tt
+
+pub not-made-counts : (before now : ℕ) (b : PadBad) → BadCounts before now b → Counts before now (not_made b)
+not-made-counts before now (bad.Store n) h = h
+not-made-counts before now bad.NoMemory h = tt
+not-made-counts before now b h = h
+
+pub bad-later : (before now : ℕ) (b : PadBad) → ((n : ℕ) → b ≡ bad.Store n → ⊥) → BadCounts before now b → before ≤ now
+bad-later before now (bad.Store n) f h = absurd (f n refl)
+bad-later before now b f h = h
+
+-- ---- of events
+
+said : (alone : Bool) (e : Told) (p : Type 0) → p → Said alone e p
+said alone (told.Stop (Some at)) p h = λ _. h
+said alone e p h = h
+
+pub caused-ends : (alone : Bool) (rs : List Record) (w : WorldState) (now : ℕ) (e : Told) (before after : ℕ) (b : WorldBad) → IsCaused before after b → IsEnded alone rs w now e before after b
+caused-ends alone rs w now e before after (world_bad.Store n) h = said alone e (HasRisenTo before after n) h
+caused-ends alone rs w now e before after (world_bad.Full n) h = absurd h
+caused-ends alone rs w now e before after world_bad.Unknown h = tt
+caused-ends alone rs w now e before after world_bad.NoText h = tt
+caused-ends alone rs w now e before after world_bad.NoMemory h = tt
+
+pub counts-ends : (alone : Bool) (rs : List Record) (w : WorldState) (now : ℕ) (e : Told) (before after : ℕ) (r : Result Shown WorldBad) → Counts before after r
+    → IfErr r (IsEnded alone rs w now e before after)
+counts-ends alone rs w now e before after (Ok x) h = tt
+counts-ends alone rs w now e before after (Err b) h = caused-ends alone rs w now e before after b h
+
+-- a failure that is passed on
+pub as-err : {A : Type 0} (P : A → Type 0) (Q : WorldBad → Type 0) (r : Result A WorldBad) (b : WorldBad) → r ≡ Err b → Q b → MatchResult r P Q
+as-err P Q r b e h = subst (λ x. MatchResult x P Q) (sym e) h
+
+pub counts-err : {A : Type 0} (before now : ℕ) (r : Result A WorldBad) (b : WorldBad) → r ≡ Err b → IsCaused before now b → Counts before now r
+counts-err before now r b e h = subst (λ x. Counts before now x) (sym e) h
+
+-- memory was wanting, or nobody had the name
+pub memory-caused : (before now : ℕ) (b : WorldBad) → ((b ≡ world_bad.Unknown → ⊥) → b ≡ world_bad.NoMemory) → IsCaused before now b
+memory-caused before now (world_bad.Store n) f = absurd (unlike (f (λ q. cc)))
+  where
+    unlike : world_bad.Store n ≡ world_bad.NoMemory → ⊥
+    unlike q = cc
+memory-caused before now (world_bad.Full n) f = unlike (f (λ q. cc))
+  where
+    unlike : world_bad.Full n ≡ world_bad.NoMemory → ⊥
+    unlike q = cc
+memory-caused before now b f = tt
+
+-- a refusal that the pad gave
+pub refused-ends : (alone : Bool) (rs : List Record) (w : WorldState) (now : ℕ) (e : Told) (before after : ℕ) (v : Verb) (n : Option Name) (b : PadBad) → BadCounts before after b
+    → IfErr (shown_or_failed v n b) (IsEnded alone rs w now e before after)
+refused-ends alone rs w now e before after v n (bad.Store c) h = caused-ends alone rs w now e before after (world_bad.Store c) h
+refused-ends alone rs w now e before after v n bad.NoMemory h = tt
+refused-ends alone rs w now e before after v n b h = tt
+
+-- ---- a call of an open machine
+
+module _ {D : Type 0} (told_by : D → Option Contents) (failures : D → ℕ) (stops_alone : D → Bool) (alone : Bool) (rs : List Record) where
+  -- its step
+  pub open-step : (old new : Held D) (pad : PadState) (e : Entry) (reply : Reply) (a : IsAt told_by failures stops_alone alone rs old pad)
+      → (next : MachineState) × IsStep size a.state e reply next → (next : MachineState) × IsOpenStep size a.state e reply next
+  open-step old new pad e reply a n = (n.0, subst (λ b. IsStepAs b size a.state e reply n.0) a.is_open n.1)
+
+  pub reply-counts : (old new : Held D) (pad : PadState) (e : Entry) (reply : Reply) → IsAt told_by failures stops_alone alone rs old pad → MakesMarked told_by failures stops_alone alone old e reply new
+      → ReplyCounts (failures old.disk) (failures new.disk) reply
+  reply-counts old new pad e reply a makes =
+      let n = makes a.state a.kept a.stands in
+      let step = subst (λ b. IsStepAs b size a.state e reply n.0) a.is_open n.1 in
+      subst (λ (k : ℕ). ReplyCounts (failures old.disk) k reply) n.2.faults
+      (subst (λ (k : ℕ). ReplyCounts k n.0.faults reply) a.stands.faults (step-counts a.state n.0 e reply step))
+
+  -- by what the call was answered
+  pub ok-counts : {A : Type 0} (old new : Held D) (pad : PadState) (e : Entry) (f : A → Answer) (r : Result A PadBad) (x : A) → IsAt told_by failures stops_alone alone rs old pad
+      → MakesMarked told_by failures stops_alone alone old e (replied f r) new → r ≡ Ok x → failures old.disk ≤ failures new.disk
+  ok-counts old new pad e f r x a makes is =
+      subst (λ y. ReplyCounts (failures old.disk) (failures new.disk) (replied f y)) is (reply-counts old new pad e (replied f r) a makes)
+
+  pub err-counts : {A : Type 0} (old new : Held D) (pad : PadState) (e : Entry) (f : A → Answer) (r : Result A PadBad) (b : PadBad) → IsAt told_by failures stops_alone alone rs old pad
+      → MakesMarked told_by failures stops_alone alone old e (replied f r) new → r ≡ Err b → BadCounts (failures old.disk) (failures new.disk) b
+  err-counts old new pad e f r b a makes is =
+      subst (λ y. ReplyCounts (failures old.disk) (failures new.disk) (replied f y)) is (reply-counts old new pad e (replied f r) a makes)
+
+  -- where nothing is recorded
+  pub reads-fails : {A : Type 0} (old new : Held D) (pad : PadState) (e : Entry) (f : A → Answer) (r : Result A PadBad) (b : PadBad) → IsReading (outcome pad e) → IsAt told_by failures stops_alone alone rs old pad
+      → MakesMarked told_by failures stops_alone alone old e (replied f r) new → r ≡ Err b → IsCaused (failures old.disk) (failures new.disk) (failed b)
+  reads-fails old new pad e f r b reads a makes is = failed-caused (failures old.disk) (failures new.disk) b (λ n q. full n (is ∙ ap Err q)) (err-counts old new pad e f r b a makes is)
+    where
+      full : (n : ℕ) → r ≡ Err (bad.JournalFull n) → ⊥
+      full n q =
+          let m = makes a.state a.kept a.stands in
+          let step = subst (λ b. IsStepAs b size a.state e (replied f r) m.0) a.is_open m.1 in
+          never-full a.state m.0 e n (subst (λ p. IsReading (outcome p e)) (sym a.pad) reads) (subst (λ y. IsOpenStep size a.state e (replied f y) m.0) q step)
+
+  -- a fetch of the first revisions
+  abbrev pub FetchesMarked : Held D → Session → ℕ → ℕ → ℕ → Result Fetched PadBad → Held D → Type 0
+  FetchesMarked old s from told n r new =
+      (st : MachineState) → IsKeptState st → Stands told_by failures old st
+      → (next : MachineState) × IsStepOfFirst st s from told n r next × Stands told_by failures new next × (stops_alone new.disk ≡ stops_alone old.disk)
+
+  pub fetched-counts : (old new : Held D) (pad : PadState) (s : Session) (from told n : ℕ) (r : Result Fetched PadBad) (x : Fetched) → IsAt told_by failures stops_alone alone rs old pad
+      → FetchesMarked old s from told n r new → r ≡ Ok x → failures old.disk ≤ failures new.disk
+  fetched-counts old new pad s from told n r x a makes is =
+      let m = makes a.state a.kept a.stands in
+      let w = subst (λ y. IsStepOfFirst a.state s from told n y m.0) is m.1 in
+      let step = subst (λ b. IsStepAs b size a.state (Fetch s from told) (Ok (FetchAnswer w.0)) m.0) a.is_open w.1 in
+      subst (λ (k : ℕ). failures old.disk ≤ k) m.2.faults (subst (λ (k : ℕ). k ≤ m.0.faults) a.stands.faults (step-counts a.state m.0 (Fetch s from told) (Ok (FetchAnswer w.0)) step))
+
+  pub unfetched-counts : (old new : Held D) (pad : PadState) (s : Session) (from told n : ℕ) (r : Result Fetched PadBad) (b : PadBad) → IsAt told_by failures stops_alone alone rs old pad
+      → FetchesMarked old s from told n r new → r ≡ Err b → BadCounts (failures old.disk) (failures new.disk) b × IsCaused (failures old.disk) (failures new.disk) (failed b)
+  unfetched-counts old new pad s from told n r b a makes is = (counts, failed-caused (failures old.disk) (failures new.disk) b (λ k q. full k q) counts)
+    where
+      step : (b : PadBad) → r ≡ Err b → (next : MachineState) × IsOpenStep size a.state (Fetch s from told) (Err b) next × Stands told_by failures new next
+      step b is =
+          let m = makes a.state a.kept a.stands in
+          (m.0, subst (λ t. IsStepAs t size a.state (Fetch s from told) (Err b) m.0) a.is_open (subst (λ y. IsStepOfFirst a.state s from told n y m.0) is m.1), m.2)
+
+      counts : BadCounts (failures old.disk) (failures new.disk) b
+      counts =
+          let m = step b is in
+          subst (λ (k : ℕ). BadCounts (failures old.disk) k b) m.2.faults
+          (subst (λ (k : ℕ). BadCounts k m.0.faults b) a.stands.faults (step-counts a.state m.0 (Fetch s from told) (Err b) m.1))
+
+      full : (k : ℕ) → b ≡ bad.JournalFull k → ⊥
+      full k q =
+          let m = step (bad.JournalFull k) (is ∙ ap Err q) in
+          never-full a.state m.0 (Fetch s from told) k (subst (λ p. IsReading (outcome p (Fetch s from told))) (sym a.pad) (fetch-reads pad s from told)) m.1

@@ -1,0 +1,24 @@
+use Rattle.std.proofs.Common.{◌≡◌, Err}
+use Rattle.ep_history.specs.Entries.Answer.{StatusAnswer}
+use Rattle.ep_history.specs.Entries.Entry.{ReadStatus}
+use Rattle.ep_history.specs.declared.pad_bad.PadBad.TheVariants as bad
+use Rattle.ep_pad_state.specs.Answering.{status_of}
+use Rattle.ep_world.proofs.Counting.{err-counts, ok-counts, reads-fails, status-reads}
+use Rattle.ep_world.proofs.stopping.opening.Goals as goal
+
+pub returns-in-Ok-clause-counts : goal.returns-in-Ok-clause-counts
+returns-in-Ok-clause-counts g c = λ alone rs pad a.
+    ok-counts g.D.Disk.told g.D.Device.failures g.D.Disk.stops_alone alone rs c.args.machine.now c.status.new.self pad ReadStatus (λ x. StatusAnswer (status_of x)) c.status.result c.in-Ok.status a
+    (λ st k x. let y = c.status.ensures st k x in (y.0, y.1, y.2, y.4.alone)) c.in-Ok.is
+
+pub returns-in-Err-Gone-clause-counts : goal.returns-in-Err-Gone-clause-counts
+returns-in-Err-Gone-clause-counts g c = λ alone rs pad a.
+    let gone : c.status.result ≡ Err bad.Gone = cc (c.in-Err-Gone.is, c.in-Err-Gone.field-0-is) in
+    err-counts g.D.Disk.told g.D.Device.failures g.D.Disk.stops_alone alone rs c.args.machine.now c.status.new.self pad ReadStatus (λ x. StatusAnswer (status_of x)) c.status.result bad.Gone a
+    (λ st k x. let y = c.status.ensures st k x in (y.0, y.1, y.2, y.4.alone)) gone
+
+pub returns-in-Err-clause-counts : goal.returns-in-Err-clause-counts
+returns-in-Err-clause-counts g c = λ alone rs pad a.
+    rw c.failure.ensures
+    (reads-fails g.D.Disk.told g.D.Device.failures g.D.Disk.stops_alone alone rs c.args.machine.now c.status.new.self pad ReadStatus (λ x. StatusAnswer (status_of x)) c.status.result c.in-Err.bad (status-reads pad) a
+    (λ st k x. let y = c.status.ensures st k x in (y.0, y.1, y.2, y.4.alone)) c.in-Err.is)

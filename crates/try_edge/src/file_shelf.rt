@@ -1,0 +1,108 @@
+//! Folders as shelves.
+
+use crate::folders::{fresh_folder, pad};
+use ep_edge::FileShelf;
+use ep_outside::{Device, Shelf, ShelfBad};
+use ep_units::PadId;
+use std::alloc::Global;
+use std::fs;
+use std::os::unix::fs::MetadataExt;
+use std::test::Fail;
+
+type HostShelf = FileShelf<HostRuntime>;
+
+fn make(alloc: Global, shelf: &mut HostShelf, name: &str) -> Result<(), Fail> {
+    let id = pad(alloc, name)?;
+    let _disk = shelf.open(&id)?;
+    Ok(())
+}
+
+fn is_pad(alloc: Global, found: &PadId, name: &str) -> Result<bool, Fail> {
+    Ok(found.as_slice() == pad(alloc, name)?.as_slice())
+}
+
+// The shelf lists these pads in this order.
+fn lists(alloc: Global, shelf: &mut HostShelf, names: &[&str]) -> Result<bool, Fail> {
+    let found = shelf.names()?;
+    if found.len() != names.len() {
+        return Ok(false);
+    }
+    for (id, name) in found.iter().zip(names) {
+        if !is_pad(alloc, id, name)? {
+            return Ok(false);
+        }
+    }
+    Ok(true)
+}
+
+// A fresh folder lists no pad, and then those that are made, but no other file.
+fn lists_made(
+    rt: &HostRuntime,
+    folder: &str,
+    made: &[&str],
+    listed: &[&str],
+) -> Result<bool, Fail> {
+    let mut shelf = FileShelf::open_at(rt, folder)?;
+    if !lists(rt.alloc(), &mut shelf, &[])? {
+        return Ok(false);
+    }
+    for name in made {
+        make(rt.alloc(), &mut shelf, name)?;
+    }
+    lists(rt.alloc(), &mut shelf, listed)
+}
+
+#[test]
+fn names_of_pads_alone(rt: HostRuntime) -> Result<(), Fail> {
+    for (made, listed) in [
+        (["b", "é", "a"].as_slice(), ["a", "b", "é"].as_slice()),
+        (
+            ["b", "ab", "\u{FFFD}", "a", "😀"].as_slice(),
+            ["a", "ab", "b", "😀", "\u{FFFD}"].as_slice(),
+        ),
+    ] {
+        fresh_folder(&rt, "named.shelf")?;
+        fs::write(&rt, "named.shelf/6A.pad", "")?;
+        fs::write(&rt, "named.shelf/directory.db", "")?;
+        assert!(rt;
+            lists_made(&rt, "named.shelf", made, listed)?,
+            "at {listed:?}"
+        );
+    }
+    Ok(fs::remove_dir_all(&rt, "named.shelf")?)
+}
+
+#[test]
+fn files_of_the_owner_alone(rt: HostRuntime) -> Result<(), Fail> {
+    fresh_folder(&rt, "owned.shelf")?;
+    let mut shelf = FileShelf::open_at(&rt, "owned.shelf")?;
+    make(rt.alloc(), &mut shelf, "a")?;
+    let made = fs::metadata(&rt, "owned.shelf/61.pad")?;
+    assert_eq!(rt; made.mode() & 0o777, 0o600);
+    Ok(fs::remove_dir_all(&rt, "owned.shelf")?)
+}
+
+fn opens(rt: &HostRuntime, folder: &str, id: &PadId) -> Result<bool, Fail> {
+    let mut shelf = FileShelf::open_at(rt, folder)?;
+    Ok(shelf.open(id).is_ok())
+}
+
+// Each call fails.
+fn is_refused(rt: &HostRuntime, folder: &str, id: &PadId) -> Result<bool, Fail> {
+    let mut shelf = FileShelf::open_at(rt, folder)?;
+    let is_closed = matches!(shelf.open(id), Err(ShelfBad::Failed)) && shelf.faults() == 1;
+    let is_unlisted = matches!(shelf.names(), Err(ShelfBad::Failed)) && shelf.faults() == 2;
+    Ok(is_closed && is_unlisted)
+}
+
+#[test]
+fn one_server_a_folder(rt: HostRuntime) -> Result<(), Fail> {
+    fresh_folder(&rt, "locked.shelf")?;
+    let id = pad(rt.alloc(), "pad")?;
+    let first = FileShelf::open_at(&rt, "locked.shelf")?;
+    assert!(rt; is_refused(&rt, "locked.shelf", &id)?);
+    drop(first);
+    assert!(rt; opens(&rt, "locked.shelf", &id)?);
+    assert!(rt; is_refused(&rt, "no/such/folder", &id)?);
+    Ok(fs::remove_dir_all(&rt, "locked.shelf")?)
+}

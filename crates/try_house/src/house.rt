@@ -1,0 +1,311 @@
+//! The pads of a house of `ep_pad_port` on their files, by the calls of its port.
+
+ghost use Rattle.std.specs.Prelude.{◌≡◌, true, IfOk};
+
+use crate::given::{DRAWN, LIMITS, grant, has_text, id, machine};
+use ep_cs::Change;
+use ep_disk_mem::{MemDisk, MemFile, MemShelf};
+use ep_groups::{DirBad, DirPort};
+use ep_keep::MapKeeper;
+use ep_outside::{Disk, Limits};
+use ep_pad::{PadBad, PadMachine, PadPort, PassBad};
+use ep_pad_port::House;
+use ep_step::newline_change;
+use ep_units::{Grant, NoMemory, Session, Units};
+use std::alloc::Global;
+use std::process::Abort;
+use std::sync::Wait;
+use std::test::Fail;
+
+pub type MemHouse = House<MemShelf, MapKeeper>;
+
+fn create(alloc: Global, pad: &mut PadMachine<MemDisk>, text: &str) -> Result<(), PadBad> {
+    let text = Units::from_str(alloc, text)?;
+    pad.create(&text, 1)?;
+    Ok(())
+}
+
+fn bytes(alloc: Global, mut disk: MemDisk) -> Result<Vec<u8>, Fail> {
+    let length = disk.length()?;
+    let mut bytes = Vec::new(alloc);
+    bytes.resize(length as usize, 0)?;
+    disk.read(0, &mut bytes)?;
+    Ok(bytes)
+}
+
+/// The file of a pad with this text.
+fn stored(alloc: Global, text: &str) -> Result<Vec<u8>, Fail> {
+    let mut pad = machine(alloc)?;
+    create(alloc, &mut pad, text)?;
+    bytes(alloc, pad.into_disk())
+}
+
+fn file(alloc: Global, name: &str, text: &str) -> Result<MemFile, Fail> {
+    let name = id(alloc, name)?;
+    let bytes = stored(alloc, text)?;
+    let fails = Vec::new(alloc);
+    Ok(MemFile { name, bytes, fails })
+}
+
+pub fn opened(
+    alloc: Global,
+    files: Vec<MemFile>,
+    fails: &[u64],
+    pads: u64,
+) -> Result<MemHouse, Fail> {
+    let shelf = MemShelf::new(alloc, files, Vec::from_slice(alloc, fails)?)?;
+    let keeper = MapKeeper::new(alloc, Vec::new(alloc));
+    Ok(House::open(alloc, shelf, keeper, Limits { pads, ..LIMITS })?)
+}
+
+fn enter<R: Wait, P: PadPort>(
+    rt: &R,
+    alloc: Global,
+    port: &P,
+    pass: &mut P::Pass,
+) -> Result<Session, PadBad>
+    requires { P.is_of port.now pass.old }
+    ensures { P.is_of port.now pass.new }
+{
+    let grant = grant(alloc)?;
+    Ok(port.login(rt, pass, &grant, 5)?.session)
+}
+
+fn come_back<R: Wait, P: PadPort>(
+    rt: &R,
+    alloc: Global,
+    port: &P,
+    pass: &mut P::Pass,
+) -> Result<Session, PadBad>
+    requires { P.is_of port.now pass.old }
+    ensures { P.is_of port.now pass.new }
+{
+    let grant = grant(alloc)?;
+    let back = port.resume(rt, pass, &grant, 0, Some(1), None, 8)?;
+    Ok(back.session)
+}
+
+fn set_text<R: Wait, P: PadPort>(
+    rt: &R,
+    alloc: Global,
+    port: &P,
+    pass: &mut P::Pass,
+) -> Result<(), PadBad>
+    requires { P.is_of port.now pass.old }
+    ensures { P.is_of port.now pass.new }
+{
+    let text = Units::from_str(alloc, "ab")?;
+    port.set_text(rt, pass, &text, 6)?;
+    Ok(())
+}
+
+/// A new line at the end of the pad, where its text is as short as it should be.
+fn newline<R: Wait, P: PadPort>(
+    rt: &R,
+    alloc: Global,
+    port: &P,
+    pass: &mut P::Pass,
+) -> Result<Option<Change>, PadBad>
+    requires { P.is_of port.now pass.old }
+    ensures { P.is_of port.now pass.new }
+{
+    let doc = port.text(rt, pass, None)?;
+    if doc.len() > 9 {
+        return Ok(None);
+    }
+    Ok(Some(newline_change(alloc, &doc)?))
+}
+
+/// A session's edit, and how it is read.
+fn edits<R: Wait, P: PadPort>(
+    rt: &R,
+    alloc: Global,
+    port: &P,
+    pass: &mut P::Pass,
+) -> Result<bool, PadBad>
+    requires { P.is_of port.now pass.old }
+    ensures { P.is_of port.now pass.new }
+{
+    let me = enter(rt, alloc, port, pass)?;
+    set_text(rt, alloc, port, pass)?;
+    let Some(change) = newline(rt, alloc, port, pass)? else {
+        return Ok(false);
+    };
+    let rev = port.accept(rt, pass, me, 1, change, 7)?.rev;
+    let head = port.fetch(rt, pass, me, 0, 0)?.head;
+    let revs = port.history(rt, pass, me, 0, 9)?.revs.len();
+    Ok(rev == 2 && head == 2 && revs == 2)
+}
+
+/// Who comes back and leaves, and a pad's next birth.
+fn births<R: Wait, P: PadPort>(
+    rt: &R,
+    alloc: Global,
+    port: &P,
+    pass: &mut P::Pass,
+) -> Result<bool, PadBad>
+    requires { P.is_of port.now pass.old }
+    ensures { P.is_of port.now pass.new }
+{
+    let me = come_back(rt, alloc, port, pass)?;
+    port.leave(rt, pass, me)?;
+    port.set_public(rt, pass, true)?;
+    let head = port.status(rt, pass)?.head;
+    port.delete(rt, pass, 9)?;
+    let text = Units::from_str(alloc, "c")?;
+    let birth = port.create(rt, pass, &text, 10)?;
+    Ok(head == 2 && birth == 2)
+}
+
+fn answers<R: Wait, P: PadPort>(rt: &R, alloc: Global, port: &P) -> Result<bool, PadBad> {
+    let name = id(alloc, "a")?;
+    let mut hall = port.hall(rt);
+    let Ok(mut pass) = port.pass(rt, &mut hall, &name) else {
+        return Ok(false);
+    };
+    Ok(edits(rt, alloc, port, &mut pass)? && births(rt, alloc, port, &mut pass)?)
+}
+
+#[test]
+fn each_call_of_a_port_answers(rt: HostRuntime) -> Result<(), Fail> {
+    let alloc = rt.alloc();
+    let house = opened(alloc, Vec::new(alloc), &[], 2)?;
+    assert!(&rt; house.limits() == LIMITS);
+    assert!(&rt; matches!(answers(&rt, alloc, &house), Ok(true)));
+    Ok(())
+}
+
+/// The directory's grant of a pad to somebody with a token.
+fn granted<R: Wait, P: DirPort>(
+    rt: &R,
+    alloc: Global,
+    port: &P,
+    pad: &str,
+) -> Result<Grant, DirBad> {
+    let pad = Units::from_str(alloc, pad)?;
+    let token = Units::from_str(alloc, "t.1")?;
+    let mut pass = port.pass(rt);
+    port.grant(rt, &mut pass, &pad, &[], &token, 1, DRAWN)
+}
+
+/// Whether who has a grant may log in to its pad.
+fn enters<R: Wait, P: PadPort>(rt: &R, port: &P, grant: &Grant) -> bool {
+    let mut hall = port.hall(rt);
+    match port.pass(rt, &mut hall, &grant.pad) {
+        Ok(mut pass) => port.login(rt, &mut pass, grant, 2).is_ok(),
+        Err(_) => false,
+    }
+}
+
+/// The directory of a house and its pads, by one value.
+#[test]
+fn who_is_granted_a_pad_may_enter(rt: HostRuntime) -> Result<(), Fail> {
+    let alloc = rt.alloc();
+    let house = opened(alloc, Vec::new(alloc), &[], 2)?;
+    let Ok(grant) = granted(&rt, alloc, &house, "a") else {
+        panic!(&rt; "no grant")
+    };
+    assert!(&rt; enters(&rt, &house, &grant));
+    Ok(())
+}
+
+/// Whether a pad has this text.
+fn reads<R: Wait, P: PadPort>(
+    rt: &R,
+    alloc: Global,
+    port: &P,
+    hall: &mut P::Hall,
+    name: &str,
+    text: &str,
+) -> Result<bool, NoMemory>
+    requires { P.is_hall port.now hall.old }
+    ensures { P.is_hall port.now hall.new }
+{
+    let name = id(alloc, name)?;
+    let Ok(mut pass) = port.pass(rt, hall, &name) else {
+        return Ok(false);
+    };
+    match port.text(rt, &mut pass, None) {
+        Ok(doc) => has_text(alloc, &doc, text),
+        Err(_) => Ok(false),
+    }
+}
+
+/// One hall is given pads with these texts.
+fn read_all<R: Wait + Abort, P: PadPort>(
+    rt: &R,
+    alloc: Global,
+    port: &P,
+    rows: &[(&str, &str)],
+) -> Result<(), NoMemory> {
+    let mut hall = port.hall(rt);
+    'rows: for (name, text) in rows {
+        assert!(rt;
+            reads(rt, alloc, port, &mut hall, name, text)?,
+            "pad {name}"
+        );
+    }
+    Ok(())
+}
+
+#[test]
+fn a_stored_pad_comes_back(rt: HostRuntime) -> Result<(), Fail> {
+    let alloc = rt.alloc();
+    let files = vec![in alloc; file(alloc, "a", "one")?, file(alloc, "b", "three")?]?;
+    let house = opened(alloc, files, &[], 2)?;
+    read_all(&rt, alloc, &house, &[("b", "three\n"), ("a", "one\n")])?;
+    Ok(())
+}
+
+/// Why a pass of a pad is refused, with its number. One that isn't refused is `given`.
+fn refused<R: Wait, P: PadPort>(
+    rt: &R,
+    alloc: Global,
+    port: &P,
+    hall: &mut P::Hall,
+    name: &str,
+) -> Result<(&'static str, u64), NoMemory>
+    requires { P.is_hall port.now hall.old }
+    ensures { P.is_hall port.now hall.new }
+{
+    let name = id(alloc, name)?;
+    Ok(match port.pass(rt, hall, &name) {
+        Ok(_) => ("given", 0),
+        Err(PassBad::Pads(count)) => ("pads", count),
+        Err(PassBad::Shelf(count)) => ("shelf", count),
+        Err(PassBad::Pad(_)) => ("pad", 0),
+        Err(PassBad::NoMemory) => ("memory", 0),
+    })
+}
+
+/// One hall is refused pads for these causes.
+fn refuse_all<R: Wait + Abort, P: PadPort>(
+    rt: &R,
+    alloc: Global,
+    port: &P,
+    rows: &[(&str, &str, u64)],
+) -> Result<(), NoMemory> {
+    let mut hall = port.hall(rt);
+    'rows: for (name, cause, number) in rows {
+        let (came, count) = refused(rt, alloc, port, &mut hall, name)?;
+        assert!(rt;
+            came == *cause && count == *number,
+            "pad {name}: {came} {count}"
+        );
+    }
+    Ok(())
+}
+
+#[test]
+fn refusals_have_their_causes(rt: HostRuntime) -> Result<(), Fail> {
+    let alloc = rt.alloc();
+    let house = opened(alloc, Vec::new(alloc), &[1], 1)?;
+    let rows = [
+        ("a", "shelf", 1),
+        ("a", "given", 0),
+        ("b", "pads", 1),
+        ("a", "given", 0),
+    ];
+    refuse_all(&rt, alloc, &house, &rows)?;
+    Ok(())
+}

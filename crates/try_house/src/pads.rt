@@ -1,0 +1,212 @@
+//! The pads of `ep_house`: toys, with threads, and a pad on its file.
+
+ghost use Rattle.std.specs.Prelude.{◌≡◌};
+ghost use Rattle.ep_house.specs.Pads.{IsHallOf};
+
+mod held;
+mod toy;
+
+use crate::given::{LIMITS, id};
+use ep_disk_mem::{MemDisk, MemFile, MemShelf};
+use ep_house::{Hall, PadPass, Pads};
+use ep_pad::{PadBad, PadEntry, PadMachine, PadReply, PassBad};
+use ep_units::{NoMemory, Units};
+use held::{Gate, HeldDisk, HeldShelf, waits};
+use std::alloc::Global;
+use std::process::Abort;
+use std::sync::atomic::Ordering;
+use std::sync::{Arc, Wait};
+use std::test::Fail;
+use std::thread::join;
+use toy::{Toy, ToyBad, ToyEntry};
+
+type MemPads = Pads<MemShelf, Toy<MemDisk>>;
+
+type MemHall = Hall<MemShelf, Toy<MemDisk>>;
+
+type HeldPads = Pads<HeldShelf, Toy<HeldDisk>>;
+
+type HeldPass = PadPass<HeldShelf, Toy<HeldDisk>>;
+
+type FilePads = Pads<MemShelf, PadMachine<MemDisk>>;
+
+type FilePass = PadPass<MemShelf, PadMachine<MemDisk>>;
+
+fn file(alloc: Global, name: &str, text: &str, fails: &[u64]) -> Result<MemFile, NoMemory> {
+    let name = id(alloc, name)?;
+    let bytes = Vec::from_slice(alloc, text.as_bytes())?;
+    let fails = Vec::from_slice(alloc, fails)?;
+    Ok(MemFile { name, bytes, fails })
+}
+
+fn opened(alloc: Global, files: Vec<MemFile>, fails: &[u64]) -> Result<MemPads, NoMemory> {
+    let fails = Vec::from_slice(alloc, fails)?;
+    Pads::open(alloc, MemShelf::new(alloc, files, fails)?, LIMITS)
+}
+
+/// What a pad reads, or why it is refused, with its number.
+fn asked<R: Wait>(
+    rt: &R,
+    alloc: Global,
+    pads: &MemPads,
+    hall: &mut MemHall,
+    name: &str,
+) -> Result<(&'static str, u64), NoMemory>
+    requires { IsHallOf pads.now hall.old }
+    ensures { IsHallOf pads.now hall.new }
+{
+    let name = id(alloc, name)?;
+    Ok(match pads.pass(rt, hall, &name) {
+        Ok(mut pass) => match pass.call(rt, ToyEntry::Read) {
+            Ok(total) => ("reads", total),
+            Err(_) => ("fails", 0),
+        },
+        Err(PassBad::Pads(count)) => ("pads", count),
+        Err(PassBad::Shelf(count)) => ("shelf", count),
+        Err(PassBad::Pad(count)) => ("pad", count),
+        Err(PassBad::NoMemory) => ("memory", 0),
+    })
+}
+
+/// One hall asks for pads, and is answered so.
+fn ask_all<R: Wait + Abort>(
+    rt: &R,
+    alloc: Global,
+    pads: &MemPads,
+    rows: &[(&str, &str, u64)],
+) -> Result<(), NoMemory> {
+    let mut hall = pads.hall(rt);
+    'rows: for (name, answer, number) in rows {
+        let (came, count) = asked(rt, alloc, pads, &mut hall, name)?;
+        assert!(rt;
+            came == *answer && count == *number,
+            "pad {name}: {came} {count}"
+        );
+    }
+    Ok(())
+}
+
+#[test]
+fn a_stored_pad_comes_back(rt: HostRuntime) -> Result<(), Fail> {
+    let alloc = rt.alloc();
+    let files = vec![in alloc;
+        file(alloc, "a", "one", &[])?,
+        file(alloc, "b", "three", &[])?,
+    ]?;
+    let pads = opened(alloc, files, &[])?;
+    let rows = [("b", "reads", 5), ("a", "reads", 3), ("b", "reads", 5)];
+    ask_all(&rt, alloc, &pads, &rows)?;
+    Ok(())
+}
+
+#[test]
+fn refusals_have_their_causes(rt: HostRuntime) -> Result<(), Fail> {
+    let alloc = rt.alloc();
+    let files = vec![in alloc; file(alloc, "b", "three", &[1])?]?;
+    let pads = opened(alloc, files, &[1])?;
+    let rows = [
+        ("b", "shelf", 1),
+        ("b", "pad", 1),
+        ("b", "reads", 5),
+        ("c", "reads", 0),
+        ("d", "pads", 2),
+        ("b", "reads", 5),
+    ];
+    ask_all(&rt, alloc, &pads, &rows)?;
+    Ok(())
+}
+
+/// Pads whose first disk has the gate.
+fn held_pads(alloc: Global, gate: &Arc<Gate, Global>) -> Result<HeldPads, NoMemory> {
+    let shelf = MemShelf::new(alloc, Vec::new(alloc), Vec::new(alloc))?;
+    let shelf = HeldShelf::new(shelf, Arc::try_clone(gate)?);
+    Pads::open(alloc, shelf, LIMITS)
+}
+
+/// Passes of two pads.
+fn two_passes<R: Wait>(
+    rt: &R,
+    alloc: Global,
+    pads: &HeldPads,
+) -> Result<Option<(HeldPass, HeldPass)>, NoMemory> {
+    let a = id(alloc, "a")?;
+    let b = id(alloc, "b")?;
+    let mut hall = pads.hall(rt);
+    match (pads.pass(rt, &mut hall, &a), pads.pass(rt, &mut hall, &b)) {
+        (Ok(a), Ok(b)) => Ok(Some((a, b))),
+        _ => Ok(None),
+    }
+}
+
+/// Waits until the first disk is in its sync, adds to the second pad, and lets the first go on.
+fn add_meanwhile<R: Wait>(rt: &R, pass: &mut HeldPass, gate: &Gate) -> (bool, Result<u64, ToyBad>) {
+    let begun = waits(&gate.begun);
+    let answer = pass.call(rt, ToyEntry::Add(7));
+    gate.opened.store(true, Ordering::SeqCst);
+    (begun, answer)
+}
+
+/// Pad A's disk holds a sync until pad B has answered.
+#[test]
+fn two_pads_at_once(rt: HostRuntime) -> Result<(), Fail> {
+    let alloc = rt.alloc();
+    let gate = Arc::new(alloc, Gate::new())?;
+    let pads = held_pads(alloc, &gate)?;
+    let Some((mut a, mut b)) = two_passes(&rt, alloc, &pads)? else {
+        panic!(&rt; "no passes")
+    };
+    assert_eq!(&rt; a.call(&rt, ToyEntry::Add(1)), Ok(1));
+    assert_eq!(&rt; b.call(&rt, ToyEntry::Add(1)), Ok(1));
+    gate.armed.store(true, Ordering::SeqCst);
+    let (first, second) = join(
+        &rt,
+        || a.call(&rt, ToyEntry::Add(5)),
+        || add_meanwhile(&rt, &mut b, &gate),
+    );
+    assert_eq!(&rt; first, Ok(6));
+    assert_eq!(&rt; second, (true, Ok(8)));
+    assert!(&rt;
+        !gate.late.load(Ordering::SeqCst),
+        "pad A's sync waited too long"
+    );
+    Ok(())
+}
+
+fn is_born<R: Wait>(rt: &R, alloc: Global, pass: &mut FilePass) -> Result<bool, NoMemory> {
+    let text = Units::from_str(alloc, "ab")?;
+    let reply = pass.call(rt, PadEntry::Create { text, now: 1 });
+    Ok(matches!(reply, PadReply::Birth(Ok(1))))
+}
+
+fn is_deleted<R: Wait>(rt: &R, pass: &mut FilePass) -> bool {
+    let reply = pass.call(rt, PadEntry::Delete { now: 2 });
+    matches!(reply, PadReply::Done(Ok(())))
+}
+
+fn is_gone<R: Wait>(rt: &R, pass: &mut FilePass) -> bool {
+    let reply = pass.call(rt, PadEntry::Status);
+    matches!(reply, PadReply::Status(Err(PadBad::Gone)))
+}
+
+/// One pass makes the pad, another deletes it, and the first reads that it is gone.
+fn lives<R: Wait>(rt: &R, alloc: Global, pads: &FilePads) -> Result<bool, NoMemory> {
+    let name = id(alloc, "p")?;
+    let mut hall = pads.hall(rt);
+    let (Ok(mut one), Ok(mut two)) = (
+        pads.pass(rt, &mut hall, &name),
+        pads.pass(rt, &mut hall, &name),
+    ) else {
+        return Ok(false);
+    };
+    Ok(is_born(rt, alloc, &mut one)? && is_deleted(rt, &mut two) && is_gone(rt, &mut one))
+}
+
+/// A pad on its file is made through one pass, and read through the next.
+#[test]
+fn a_pad_on_its_file(rt: HostRuntime) -> Result<(), Fail> {
+    let alloc = rt.alloc();
+    let shelf = MemShelf::new(alloc, Vec::new(alloc), Vec::new(alloc))?;
+    let pads: FilePads = Pads::open(alloc, shelf, LIMITS)?;
+    assert!(&rt; lives(&rt, alloc, &pads)?);
+    Ok(())
+}

@@ -1,0 +1,239 @@
+//! WebSockets.
+
+use ep_link::{Ear, Link, LinkBad, LinkGot};
+use ep_net::WsLink;
+use ep_outside::Device;
+use mio::net::TcpListener;
+use std::alloc::{AllocError, Global};
+use std::io::{Read, Write};
+use std::net::{Net, SocketAddr};
+use std::random::RandomSource;
+use std::sync::Wait;
+use std::test::Fail;
+use std::time::{Clock, Duration};
+use std::{io, net, thread};
+
+// The example of RFC 6455, section 1.3.
+const REQUEST: &[u8] =
+    b"GET / HTTP/1.1\r\nHost: x\r\nConnection: Upgrade\r\nUpgrade: websocket\r\nSec-WebSocket-Version: 13\r\nSec-WebSocket-Key: dGhlIHNhbXBsZSBub25jZQ==\r\n\r\n";
+
+const ACCEPTED: &str = "s3pPLMBiTxaQ9kYGzzhZRbK+xOo=";
+
+fn listen(rt: &HostRuntime) -> Result<TcpListener, Fail> {
+    let address = "127.0.0.1:0".parse()?;
+    Ok(TcpListener::bind(rt, address)?)
+}
+
+pub fn text_of(alloc: Global, address: SocketAddr) -> Result<String, AllocError> {
+    format!(in alloc; "{address}")
+}
+
+fn address_of(alloc: Global, listener: &TcpListener) -> Result<String, Fail> {
+    Ok(text_of(alloc, listener.local_addr()?)?)
+}
+
+// The link to the next caller.
+fn taken<R: Net + RandomSource + Clock + Copy + Drop>(
+    rt: &R,
+    alloc: Global,
+    listener: &TcpListener,
+) -> Option<WsLink<R>> {
+    for _ in 0..500u32 {
+        match listener.accept() {
+            Ok((stream, _)) => return Some(WsLink::taken(*rt, alloc, stream)),
+            Err(_) => thread::sleep(rt, Duration::from_millis(10)),
+        }
+    }
+    None
+}
+
+// A caller's bare socket.
+fn call(rt: &HostRuntime, listener: &TcpListener) -> io::Result<net::TcpStream> {
+    let caller = net::TcpStream::connect(rt, listener.local_addr()?)?;
+    caller.set_read_timeout(Some(Duration::from_secs(20)))?;
+    caller.set_nodelay(true)?;
+    Ok(caller)
+}
+
+// A caller's bare socket, and the link to it.
+fn called(rt: &HostRuntime) -> Result<(net::TcpStream, WsLink<HostRuntime>), Fail> {
+    let listener = listen(rt)?;
+    let caller = call(rt, &listener)?;
+    match taken(rt, rt.alloc(), &listener) {
+        Some(link) => Ok((caller, link)),
+        None => Err(Fail::from("nobody called")),
+    }
+}
+
+// What comes in 20 seconds.
+pub fn next_got<R: Net + RandomSource + Clock + Copy + Drop + Wait>(
+    rt: &R,
+    link: &mut WsLink<R>,
+) -> LinkGot {
+    for _ in 0..1000u32 {
+        match link.recv(rt) {
+            LinkGot::Nothing => {}
+            got => return got,
+        }
+    }
+    LinkGot::Nothing
+}
+
+fn is_text(got: &LinkGot, text: &str) -> bool {
+    match got {
+        LinkGot::Message(message) => message.as_str() == text,
+        _ => false,
+    }
+}
+
+/// The text goes out, and comes back.
+pub fn is_echoed<R: Net + RandomSource + Clock + Copy + Drop + Wait>(
+    rt: &R,
+    link: &mut WsLink<R>,
+    text: &str,
+) -> bool {
+    link.send(rt, text).is_ok() && is_text(&next_got(rt, link), text)
+}
+
+/// Sends each message back until the other side is gone, and answers how many there were.
+pub fn echo<R: Net + RandomSource + Clock + Copy + Drop + Wait>(
+    rt: &R,
+    mut link: WsLink<R>,
+) -> u32 {
+    let mut messages = 0u32;
+    for _ in 0..2000u32 {
+        match link.recv(rt) {
+            LinkGot::Message(text) => {
+                messages = messages.saturating_add(1);
+                if link.send(rt, text.as_str()).is_err() {
+                    return 0;
+                }
+            }
+            LinkGot::Nothing => {}
+            _ => return messages,
+        }
+    }
+    0
+}
+
+// The answer of the example comes.
+fn hears_answer(caller: &mut net::TcpStream) -> io::Result<bool> {
+    let mut room = [0; 512];
+    let n = caller.read(&mut room)?;
+    match str::from_utf8(&room[..n]) {
+        Ok(text) => Ok(text.starts_with("HTTP/1.1 101 ") && text.contains(ACCEPTED)),
+        Err(_) => Ok(false),
+    }
+}
+
+fn hears(caller: &mut net::TcpStream, frames: [u8; 7]) -> io::Result<bool> {
+    let mut room = [0; 7];
+    caller.read_exact(&mut room)?;
+    Ok(room == frames)
+}
+
+#[test]
+fn serves_a_caller(rt: HostRuntime) -> Result<(), Fail> {
+    let (mut caller, mut link) = called(&rt)?;
+    assert!(rt; caller.write_all(REQUEST).is_ok());
+    assert!(rt; matches!(link.recv(&rt), LinkGot::Nothing));
+    assert!(rt; matches!(hears_answer(&mut caller), Ok(true)));
+    // A ping, a text and a binary message, masked by zeros.
+    let frames = [0x89, 0x80, 0, 0, 0, 0, 0x81, 0x82, 0, 0, 0, 0, b'h', b'i'];
+    assert!(rt; caller.write_all(&frames).is_ok());
+    assert!(rt; is_text(&next_got(&rt, &mut link), "hi"));
+    assert!(rt; link.send(&rt, "yes").is_ok());
+    let frames = [0x8A, 0, 0x81, 3, b'y', b'e', b's'];
+    assert!(rt; matches!(hears(&mut caller, frames), Ok(true)));
+    assert!(rt; caller.write_all(&[0x82, 0x81, 0, 0, 0, 0, 7]).is_ok());
+    assert!(rt; matches!(next_got(&rt, &mut link), LinkGot::Binary));
+    assert!(rt; caller.write_all(&[0x88, 0x80, 0, 0, 0, 0]).is_ok());
+    assert!(rt; matches!(next_got(&rt, &mut link), LinkGot::Closed));
+    assert_eq!(rt; link.faults(), 0);
+    Ok(())
+}
+
+#[test]
+fn refuses_another_caller(rt: HostRuntime) -> Result<(), Fail> {
+    let (mut caller, mut link) = called(&rt)?;
+    assert!(rt; caller.write_all(b"GET / HTTP/1.1\r\n\r\n").is_ok());
+    assert!(rt; matches!(next_got(&rt, &mut link), LinkGot::Closed));
+    assert!(rt; matches!(next_got(&rt, &mut link), LinkGot::Closed));
+    assert_eq!(rt; link.faults(), 0);
+    assert!(rt; matches!(link.send(&rt, "x"), Err(LinkBad::Failed)));
+    assert!(rt; matches!(next_got(&rt, &mut link), LinkGot::Failed));
+    assert_eq!(rt; link.faults(), 2);
+    Ok(())
+}
+
+#[test]
+fn tells_that_a_caller_broke_the_rules(rt: HostRuntime) -> Result<(), Fail> {
+    let (mut caller, mut link) = called(&rt)?;
+    assert!(rt; caller.write_all(REQUEST).is_ok());
+    assert!(rt; matches!(link.recv(&rt), LinkGot::Nothing));
+    // A frame that a client must not send bare.
+    assert!(rt; caller.write_all(&[0x81, 0]).is_ok());
+    drop(caller);
+    assert!(rt; matches!(next_got(&rt, &mut link), LinkGot::Failed));
+    assert_eq!(rt; link.faults(), 1);
+    Ok(())
+}
+
+#[test]
+fn tells_that_a_caller_is_gone(rt: HostRuntime) -> Result<(), Fail> {
+    let (caller, mut link) = called(&rt)?;
+    drop(caller);
+    assert!(rt; matches!(next_got(&rt, &mut link), LinkGot::Closed));
+    Ok(())
+}
+
+// Echoes to the next caller.
+fn serve<R: Net + RandomSource + Clock + Copy + Drop + Wait>(
+    rt: &R,
+    alloc: Global,
+    listener: &TcpListener,
+) -> u32 {
+    match taken(rt, alloc, listener) {
+        Some(link) => echo(rt, link),
+        None => 0,
+    }
+}
+
+// Far more than a socket holds at once.
+fn long_text(alloc: Global) -> Result<String, Fail> {
+    let bytes = Vec::from_elem(alloc, b'x', 3_000_000)?;
+    Ok(String::from_utf8(bytes)?)
+}
+
+#[test]
+fn both_sides(rt: HostRuntime) -> Result<(), Fail> {
+    let alloc = rt.alloc();
+    let long = long_text(alloc)?;
+    let listener = listen(&rt)?;
+    let address = address_of(alloc, &listener)?;
+    let server = thread::spawn(&rt, move || serve(&rt, rt.alloc(), &listener))?;
+    let mut link = WsLink::connect(rt, alloc, &address).expect(&rt, "no link");
+    for text in ["é😀", "", long.as_str()] {
+        assert!(rt; is_echoed(&rt, &mut link, text), "{} bytes", text.len());
+    }
+    let ear = link.ear().expect(&rt, "no ear");
+    let ringer = thread::spawn(&rt, move || ear.ring()).expect(&rt, "no thread");
+    assert!(rt; ringer.join(&rt));
+    let ear = link.ear().expect(&rt, "no ear");
+    assert_eq!(rt; link.faults(), 0);
+    drop(link);
+    assert!(rt; !ear.ring());
+    assert_eq!(rt; server.join(&rt), 3);
+    Ok(())
+}
+
+#[test]
+fn nobody_to_call(rt: HostRuntime) -> Result<(), Fail> {
+    let alloc = rt.alloc();
+    let left = address_of(alloc, &listen(&rt)?)?;
+    for address in [left.as_str(), "nowhere"] {
+        let link = WsLink::connect(rt, alloc, address);
+        assert!(rt; matches!(link, Err(LinkBad::Failed)), "at {address}");
+    }
+    Ok(())
+}
