@@ -1,2 +1,4 @@
 pub mod Keeping
+pub mod Shown
+pub mod Sound
 mod Rows

@@ -5,10 +5,9 @@ ghost use Rattle.ep_cs.specs.Edit.{apply, identity};
 ghost use Rattle.ep_cs.specs.Fits.{Fits, is_identity};
 ghost use Rattle.ep_cs.specs.Fitting.{fit_bad};
 ghost use Rattle.ep_history.specs.History.{is_session};
-ghost use Rattle.ep_history.specs.Kept.{kept_started, kept_edited, kept_lost, kept_resumes, kept_own, kept_other, kept_nop, kept_dropped, is_kept_own, is_kept_elsewhere, is_kept_spent};
+ghost use Rattle.ep_history.specs.Kept.{kept_started, kept_edited, kept_lost, kept_resumes, kept_own, kept_other, kept_nop, kept_dropped, is_kept_own, is_kept_elsewhere, is_kept_spent, IsKeptSound};
 ghost use Rattle.ep_client.specs.Refusals.{Refuses, answered, fit_fault, order_fault, commit_fault, nop_fault, rev_fault, hear_fault};
-ghost use Rattle.ep_client.specs.Hearing.{kept_hears, kept_hears_rev, told_of, told_of_rev};
-ghost use Rattle.ep_client.specs.declared.heard.Told.TheVariants.{Commit};
+ghost use Rattle.ep_client.specs.Hearing.{kept_hears, kept_hears_rev, shown_change, told_of, view_change, view_change_rev};
 ghost use Rattle.ep_client.specs.Submitting.{Submits};
 
 use crate::bad::ClientBad;
@@ -164,6 +163,20 @@ impl Client {
         }))
     }
 
+    /// What this would be to it, if it heard it: its own or another's.
+    pub fn told_of(&self, heard: &Heard) -> Told
+        ensures { result ≡ told_of heard.now self.now }
+    {
+        match heard {
+            Heard::Rev {
+                rev: _,
+                change: _,
+                session,
+            } if !is_own(*session, self.sent_in) => Told::News,
+            _ => Told::Commit,
+        }
+    }
+
     /// It hears the next revision, or that its submission became nothing. Another's revision costs four follows, and one
     /// application each to the document and to the view, which share the blocks that it leaves as they are.
     pub fn hear(&mut self, alloc: Global, heard: &Heard) -> Result<Told, ClientBad>
@@ -172,9 +185,23 @@ impl Client {
         ensures refused { Refuses (hear_fault heard.now self.old) result }
         ensures kept { OnErr result (self.new ≡ self.old) }
     {
+        let told = self.told_of(heard);
+        self.hear_change(alloc, heard)?;
+        Ok(told)
+    }
+
+    /// As `hear`, but it answers what that changes of the view: nothing, where it was its own.
+    pub fn hear_change(&mut self, alloc: Global, heard: &Heard) -> Result<Change, ClientBad>
+        ensures made { OnOk result (self.new ≡ kept_hears heard.now self.old) }
+        ensures change { IfOk result (λ c. c.edit ≡ view_change heard.now self.old) }
+        ensures fits { IfOk result (λ c. Fits c self.old.view) }
+        ensures shown { IfOk result (λ c. self.new.view ≡ apply c.edit self.old.view) }
+        ensures refused { Refuses (hear_fault heard.now self.old) result }
+        ensures kept { OnErr result (self.new ≡ self.old) }
+    {
         match heard {
             Heard::Commit { rev } => self.hear_commit(alloc, *rev),
-            Heard::Nop { rev } => self.hear_nop(*rev),
+            Heard::Nop { rev } => self.hear_nop(alloc, *rev),
             Heard::Rev {
                 rev,
                 change,
@@ -183,9 +210,10 @@ impl Client {
         }
     }
 
-    fn hear_commit(&mut self, alloc: Global, rev: u64) -> Result<Told, ClientBad>
+    fn hear_commit(&mut self, alloc: Global, rev: u64) -> Result<Change, ClientBad>
         ensures made { OnOk result (self.new ≡ kept_own self.old) }
-        ensures told { IfOk result (λ told. told ≡ Commit) }
+        ensures change { IfOk result (λ c. c.edit ≡ identity (length self.old.view)) }
+        ensures fits { IfOk result (λ c. Fits c self.old.view) }
         ensures refused { Refuses (commit_fault rev self.old) result }
         ensures kept { OnErr result (self.new ≡ self.old) }
     {
@@ -193,13 +221,13 @@ impl Client {
         if self.sent_in.is_none() {
             return Err(ClientBad::NotSubmitted);
         }
-        self.take_own(alloc, rev)?;
-        Ok(Told::Commit)
+        Ok(self.take_own(alloc, rev)?)
     }
 
-    fn hear_nop(&mut self, rev: u64) -> Result<Told, ClientBad>
+    fn hear_nop(&mut self, alloc: Global, rev: u64) -> Result<Change, ClientBad>
         ensures made { OnOk result (self.new ≡ kept_nop self.old) }
-        ensures told { IfOk result (λ told. told ≡ Commit) }
+        ensures change { IfOk result (λ c. c.edit ≡ identity (length self.old.view)) }
+        ensures fits { IfOk result (λ c. Fits c self.old.view) }
         ensures refused { Refuses (nop_fault rev self.old) result }
         ensures kept { OnErr result (self.new ≡ self.old) }
     {
@@ -208,7 +236,7 @@ impl Client {
             return Err(ClientBad::NotSubmitted);
         }
         self.drop_sent();
-        Ok(Told::Commit)
+        Ok(unchanged(alloc, &self.view))
     }
 
     fn hear_rev(
@@ -217,27 +245,29 @@ impl Client {
         rev: u64,
         change: &Change,
         session: Session,
-    ) -> Result<Told, ClientBad>
+    ) -> Result<Change, ClientBad>
         ensures made { OnOk result (self.new ≡ kept_hears_rev change.now session self.old) }
-        ensures told { IfOk result (λ told. told ≡ told_of_rev session self.old) }
+        ensures change { IfOk result (λ c. c.edit ≡ view_change_rev change.now session self.old) }
+        ensures fits { IfOk result (λ c. Fits c self.old.view) }
         ensures refused { Refuses (rev_fault rev change.now session self.old) result }
         ensures kept { OnErr result (self.new ≡ self.old) }
     {
         is_next(self.rev, rev)?;
         if is_own(session, self.sent_in) {
-            self.take_own(alloc, rev)?;
-            return Ok(Told::Commit);
+            return Ok(self.take_own(alloc, rev)?);
         }
         fits(&self.doc, change)?;
-        self.take_other(alloc, rev, change)?;
+        let shown = self.take_other(alloc, rev, change)?;
         self.drop_spent();
-        Ok(Told::News)
+        Ok(shown)
     }
 
-    /// The next revision is its own: what was submitted becomes part of the document.
-    fn take_own(&mut self, alloc: Global, rev: u64) -> Result<(), NoMemory>
+    /// The next revision is its own: what was submitted becomes part of the document. Nothing changes of the view.
+    fn take_own(&mut self, alloc: Global, rev: u64) -> Result<Change, NoMemory>
         requires { rev ≡ suc self.old.rev }
         ensures made { OnOk result (self.new ≡ kept_own self.old) }
+        ensures change { IfOk result (λ c. c.edit ≡ identity (length self.old.view)) }
+        ensures fits { IfOk result (λ c. Fits c self.old.view) }
         ensures kept { OnErr result (self.new ≡ self.old) }
     {
         let doc = apply(alloc, &self.doc, &self.sent)?;
@@ -246,15 +276,17 @@ impl Client {
         self.doc = doc;
         self.sent = sent;
         self.sent_in = None;
-        Ok(())
+        Ok(unchanged(alloc, &self.view))
     }
 
     /// The next revision is another's. It goes before what was submitted, and behind the client's own text before the
-    /// rest.
-    fn take_other(&mut self, alloc: Global, rev: u64, change: &Change) -> Result<(), NoMemory>
+    /// rest. What it changes of the view goes behind all of that text.
+    fn take_other(&mut self, alloc: Global, rev: u64, change: &Change) -> Result<Change, NoMemory>
         requires next { rev ≡ suc self.old.rev }
         requires fits { Fits change.now self.old.doc }
         ensures made { OnOk result (self.new ≡ kept_other change.now.edit self.old) }
+        ensures change { IfOk result (λ c. c.edit ≡ shown_change change.now.edit self.old) }
+        ensures fits { IfOk result (λ c. Fits c self.old.view) }
         ensures kept { OnErr result (self.new ≡ self.old) }
     {
         let below = follow(alloc, &self.sent, change, First::B)?;
@@ -268,7 +300,7 @@ impl Client {
         self.sent = sent;
         self.local = local;
         self.view = view;
-        Ok(())
+        Ok(shown)
     }
 
     /// Whether what was submitted in this session has become nothing.
@@ -311,6 +343,15 @@ impl Client {
         ensures whole { self.now.view ≡ apply self.now.local (apply self.now.sent self.now.doc) }
     {
         &self.view
+    }
+
+    /// What holds of every client: what was submitted fits the document of its revision, what was not fits what that
+    /// makes, the view is the document after both, and no submission alters nothing. It does nothing.
+    pub fn equations(&self)
+        ensures { IsKeptSound self.now }
+    {
+        let _sent = self.sent.ops();
+        let _local = self.local.ops();
     }
 
     /// The revision that it has heard, counted from 0.
