@@ -1,45 +1,65 @@
 //! A file as a disk.
 
-ghost use Rattle.std.specs.Prelude.{◌≡◌, ◌<◌, ◌^◌, IfOk};
+ghost use Rattle.std.specs.Prelude.{◌≡◌};
 
+use crate::mending::{length_of, mended};
+use crate::place::Place;
 use ep_outside::{Device, Disk, Failed};
 use ep_units::NoMemory;
-use std::fs::File;
+use std::fs::{File, Files};
 use std::io;
-use std::io::{Error, ErrorKind};
 use std::os::unix::fs::FileExt;
 
 /// An open file as a disk.
 ///
-/// A call that failed may have done a part of its work. After a sync that failed each later sync fails too: the
-/// system may have dropped what it could not write, and would say of the next one that all is well.
-#[derive(Drop)]
-pub struct FileDisk {
+/// A call that failed may have done a part of its work. After a sync that failed the file is in doubt: the system may
+/// have dropped what it could not write, and would say of the next sync that all is well. So that one writes the file
+/// anew, as it reads, in its own place. Where it can't, it fails, and the file stays in doubt.
+pub struct FileDisk<R: Files<File = File>> {
+    files: R,
+    place: Place,
     file: File,
     // the calls and the bytes for which there is room
     calls: u64,
     bytes: u64,
-    // a sync failed
-    is_unsure: bool,
+    // what reads from it may not be on the disk, however it is synced
+    is_doubtful: bool,
     faults: u64,
 }
 
-impl FileDisk {
-    /// The file has to be open for reading and writing.
-    pub fn new(file: File) -> FileDisk
-        ensures { ⟦<FileDisk as Device>⟧.failures result ≡ 0 }
+impl<R: Files<File = File> + Drop> Drop for FileDisk<R> {
+    fn drop(self) {
+        let FileDisk {
+            files: _,
+            place: _,
+            file: _,
+            calls: _,
+            bytes: _,
+            is_doubtful: _,
+            faults: _,
+        } = self;
+    }
+}
+
+impl<R: Files<File = File>> FileDisk<R> {
+    /// The file has to be open for reading and writing. It is in doubt where an earlier server left it so.
+    pub fn new(files: R, place: Place, file: File) -> FileDisk<R>
+        ensures { ⟦<FileDisk<R> as Device>⟧.failures result ≡ 0 }
     {
+        let is_doubtful = place.is_marked(&files);
         FileDisk {
+            files,
+            place,
             file,
             calls: 0,
             bytes: 0,
-            is_unsure: false,
+            is_doubtful,
             faults: 0,
         }
     }
 }
 
-impl Device for FileDisk {
+impl<R: Files<File = File>> Device for FileDisk<R> {
     ghost use Rattle.std.specs.Prelude.{false};
     ghost use Rattle.std.proofs.Common.{sym, true≢false};
 
@@ -54,7 +74,7 @@ impl Device for FileDisk {
     }
 }
 
-impl Disk for FileDisk {
+impl<R: Files<File = File>> Disk for FileDisk<R> {
     ghost use Rattle.std.specs.Prelude.{None};
 
     ghost told = { λ _. None };
@@ -104,7 +124,7 @@ impl Disk for FileDisk {
 
     fn sync(&mut self) -> Result<(), Failed> {
         self.calls -= 1;
-        match self.sync_data() {
+        match self.settle() {
             Ok(()) => Ok(()),
             Err(_) => Err(self.fault()),
         }
@@ -117,20 +137,26 @@ impl Disk for FileDisk {
     }
 }
 
-impl FileDisk {
+impl<R: Files<File = File>> FileDisk<R> {
     ghost use Rattle.std.specs.Prelude.{false, true, OnErr, OnOk};
     ghost use Rattle.ep_outside.specs.Outside.{risen};
 
-    // A sync after one that failed would say nothing of what the system has dropped.
-    fn sync_data(&mut self) -> io::Result<()>
-        ensures ok { OnOk result ((self.old.is_unsure ≡ false) × (self.new ≡ self.old)) }
-        ensures err { OnErr result (self.new ≡ record self.old { is_unsure = true }) }
+    // All that reads from the file is on the disk. Of one in doubt a sync would say nothing.
+    fn settle(&mut self) -> io::Result<()>
+        ensures ok { OnOk result (self.new ≡ record self.old { file = self.new.file; is_doubtful = false }) }
+        ensures err { OnErr result (self.new ≡ record self.old { is_doubtful = true }) }
+        ensures same { self.old.is_doubtful ≡ false → self.new.file ≡ self.old.file }
     {
-        if self.is_unsure {
-            return Err(Error::from(ErrorKind::Other));
+        if self.is_doubtful {
+            self.file = mended(&self.files, &self.place, &self.file)?;
+            self.is_doubtful = false;
+            return Ok(());
         }
         let synced = self.file.sync_data();
-        self.is_unsure = synced.is_err();
+        if synced.is_err() {
+            self.is_doubtful = true;
+            self.place.mark(&self.files);
+        }
         synced
     }
 
@@ -140,17 +166,5 @@ impl FileDisk {
     {
         self.faults = self.faults.saturating_add(1);
         Failed
-    }
-}
-
-// The bytes of a file, fewer than 2^63.
-fn length_of(file: &File) -> io::Result<u64>
-    ensures { IfOk result (λ length. length < 2 ^ 63) }
-{
-    let length = file.metadata()?.len();
-    if length < 1 << 63 {
-        Ok(length)
-    } else {
-        Err(Error::from(ErrorKind::FileTooLarge))
     }
 }

@@ -7,6 +7,7 @@ ghost use Rattle.ep_outside.specs.Shelf.{rises};
 use crate::file_disk::FileDisk;
 use crate::naming::{file_name, id_of};
 use crate::ordered::in_order;
+use crate::place::{OWNER_ALONE, Place, path_in};
 use ep_outside::{Device, Shelf, ShelfBad};
 use ep_units::{NoMemory, PadId};
 use std::alloc::Global;
@@ -14,9 +15,6 @@ use std::fs::{DirEntry, File, Files, OpenOptions};
 use std::io::ErrorKind;
 use std::os::unix::fs::OpenOptionsExt;
 use std::{fs, io};
-
-// Read and written by the owner alone.
-const OWNER_ALONE: u32 = 0o600;
 
 // The file whose lock keeps a second server out of the folder.
 const LOCK: &str = "padd.lock";
@@ -110,11 +108,6 @@ fn copied(alloc: Global, path: &str) -> Result<String, NoMemory> {
     Ok(String::from_str(alloc, path)?)
 }
 
-// The path of an entry of a folder.
-fn path_in(alloc: Global, folder: &str, name: &str) -> Result<String, NoMemory> {
-    Ok(format!(in alloc; "{folder}/{name}")?)
-}
-
 // The file of a folder's lock, which is made where it isn't there.
 fn lock_file<R: Files<File = File>>(rt: &R, path: &str) -> io::Result<File> {
     OpenOptions::new()
@@ -150,26 +143,36 @@ impl Folder {
         }))
     }
 
-    // The file of a pad, which is made where it is not there. Its name is then there for good.
-    fn file<R: Files<File = File> + AllocGlobal>(
+    // The disk of a pad, whose file is made where it is not there.
+    fn disk<R: Files<File = File> + AllocGlobal + Clone>(
         &mut self,
         rt: &R,
         id: &PadId,
-    ) -> Result<File, ShelfBad> {
+    ) -> Result<FileDisk<R>, ShelfBad>
+        ensures { IfOk result (λ disk. ⟦<FileDisk<R> as Device>⟧.failures disk ≡ 0) }
+    {
         let alloc = rt.alloc();
-        let path = path_in(alloc, self.path.as_str(), file_name(alloc, id)?.as_str())?;
+        let place = Place::new(alloc, self.path.as_str(), file_name(alloc, id)?.as_str())?;
+        let file = self.file(rt, place.path()).map_err(bad)?;
+        match rt.clone() {
+            Ok(files) => Ok(FileDisk::new(files, place, file)),
+            Err(_) => Err(ShelfBad::NoMemory),
+        }
+    }
+
+    // The file at a path, which is made where it is not there. Its name is then there for good.
+    fn file<R: Files<File = File>>(&mut self, rt: &R, path: &str) -> io::Result<File> {
         let mut how = OpenOptions::new();
         how.read(true).write(true).mode(OWNER_ALONE);
-        let file = match how.open(rt, path.as_str()) {
+        let file = match how.open(rt, path) {
             Err(error) if error.kind() == ErrorKind::NotFound => {
                 self.is_unsure = true;
-                how.create_new(true).open(rt, path.as_str())
+                how.create_new(true).open(rt, path)?
             }
-            opened => opened,
+            opened => opened?,
         };
-        let file = file.map_err(bad)?;
         if self.is_unsure {
-            self.entries.sync_all().map_err(bad)?;
+            self.entries.sync_all()?;
             self.is_unsure = false;
         }
         Ok(file)
@@ -218,7 +221,7 @@ impl<R: Files<File = File>> Device for FileShelf<R> {
 impl<R: Files<File = File> + AllocGlobal + Clone + Drop> Shelf for FileShelf<R> {
     ghost use Rattle.std.specs.Prelude.{None};
 
-    type D = FileDisk;
+    type D = FileDisk<R>;
 
     ghost names = { λ _. None };
 
@@ -235,13 +238,13 @@ impl<R: Files<File = File> + AllocGlobal + Clone + Drop> Shelf for FileShelf<R> 
         }
     }
 
-    fn open(&mut self, name: &PadId) -> Result<FileDisk, ShelfBad> {
+    fn open(&mut self, name: &PadId) -> Result<FileDisk<R>, ShelfBad> {
         let opened = match &mut self.folder {
-            Ok(folder) => folder.file(&self.files, name),
+            Ok(folder) => folder.disk(&self.files, name),
             Err(_) => Err(ShelfBad::Failed),
         };
         match opened {
-            Ok(file) => Ok(FileDisk::new(file)),
+            Ok(disk) => Ok(disk),
             Err(why) => Err(self.counted(why)),
         }
     }

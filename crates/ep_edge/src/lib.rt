@@ -7,8 +7,10 @@
 
 mod file_disk;
 mod file_shelf;
+mod mending;
 mod naming;
 mod ordered;
+mod place;
 mod standard;
 mod sys_clock;
 mod sys_draws;
@@ -16,6 +18,7 @@ mod sys_draws;
 pub use file_disk::FileDisk;
 pub use file_shelf::{FileShelf, Lacking};
 pub use naming::{file_name, id_of};
+pub use place::Place;
 pub use standard::{StdSink, StdSource};
 pub use sys_clock::{SysClock, whole_ms};
 pub use sys_draws::SysDraws;

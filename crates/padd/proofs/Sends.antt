@@ -12,8 +12,8 @@ use Rattle.ep_serve.proofs.work.Work.TheSendSync as work
 use Rattle.ep_serve.specs.contracts.work.Work as served
 use Rattle.padd.specs.contracts.real.RealJob as real_job
 use Rattle.padd.specs.contracts.missing.Opened as opened
+use Rattle.padd.specs.contracts.shelf.RealDisk as real_disk
 use Rattle.padd.specs.contracts.shelf.RealShelf as real_shelf
-use Rattle.ep_edge.specs.contracts.file_disk.FileDisk as file_disk
 use Rattle.ep_edge.specs.contracts.sys_clock.SysClock as sys_clock
 use Rattle.ep_edge.specs.contracts.sys_draws.SysDraws as sys_draws
 use Rattle.ep_doors.specs.contracts.thread_spawner.ThreadSpawner as spawner
@@ -28,7 +28,7 @@ shelf_sends = search (sendable, crosses) depth 30
 pub opened_sends : IsSend opened.the_row
 opened_sends = search (sendable, crosses, shelf_sends) depth 30
 
-pub disk_sends : IsSend file_disk.the_row
+pub disk_sends : IsSend real_disk.the_row
 disk_sends = search (sendable, crosses) depth 30
 
 pub keeper_sends : (R : RattleType) → IsSend R → IsSend (far_keeper.the_row R)

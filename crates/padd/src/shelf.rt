@@ -1,7 +1,7 @@
 //! The shelf of a folder of this machine.
 
 use ep_edge::{FileDisk, FileShelf, Lacking};
-use ep_outside::{Device, Shelf, ShelfBad};
+use ep_outside::{Device, Disk, Failed, Shelf, ShelfBad};
 use ep_units::{NoMemory, PadId};
 
 /// The shelf of a folder. It is the shelf within; its type names no runtime, so that those that stand on it are short.
@@ -29,6 +29,74 @@ impl RealShelf {
     }
 }
 
+/// A file of the folder. It is the disk within; its type names no runtime either.
+pub struct RealDisk {
+    disk: FileDisk<HostRuntime>,
+}
+
+impl Drop for RealDisk {
+    fn drop(self) {
+        let RealDisk { disk: _ } = self;
+    }
+}
+
+impl Device for RealDisk {
+    ghost use Rattle.std.specs.Prelude.{false};
+    ghost use Rattle.std.proofs.Common.{sym, true≢false};
+
+    ghost failures = { λ d. ⟦<FileDisk<HostRuntime> as Device>⟧.failures d.disk };
+
+    ghost is_steady = { λ _. false };
+
+    ghost never_fails = { λ _ h. absurd (true≢false (sym h)) };
+
+    fn faults(&self) -> u64 {
+        self.disk.faults()
+    }
+}
+
+impl Disk for RealDisk {
+    ghost use Rattle.std.specs.Prelude.{None};
+
+    ghost told = { λ _. None };
+
+    ghost moment = { λ _. 0 };
+
+    ghost since = { λ _ _ _. Unit {0} };
+
+    ghost room = { λ d. ⟦<FileDisk<HostRuntime> as Disk>⟧.room d.disk };
+
+    ghost counts_now = { λ _ _ _ _ _. tt };
+
+    ghost only_now = { λ _ _ _. tt };
+
+    ghost reads_as_left = { λ _. tt };
+
+    fn length(&mut self) -> Result<u64, Failed> {
+        self.disk.length()
+    }
+
+    fn read(&mut self, at: u64, into: &mut [u8]) -> Result<(), Failed> {
+        self.disk.read(at, into)
+    }
+
+    fn write_at(&mut self, at: u64, bytes: &[u8]) -> Result<(), Failed> {
+        self.disk.write_at(at, bytes)
+    }
+
+    fn cut(&mut self, to: u64) -> Result<(), Failed> {
+        self.disk.cut(to)
+    }
+
+    fn sync(&mut self) -> Result<(), Failed> {
+        self.disk.sync()
+    }
+
+    fn reserve(&mut self, bytes: u64) -> Result<(), NoMemory> {
+        self.disk.reserve(bytes)
+    }
+}
+
 impl Device for RealShelf {
     ghost use Rattle.std.specs.Prelude.{false};
     ghost use Rattle.std.proofs.Common.{sym, true≢false};
@@ -47,7 +115,7 @@ impl Device for RealShelf {
 impl Shelf for RealShelf {
     ghost use Rattle.std.specs.Prelude.{None};
 
-    type D = FileDisk;
+    type D = RealDisk;
 
     ghost names = { λ _. None };
 
@@ -57,7 +125,10 @@ impl Shelf for RealShelf {
         self.shelf.names()
     }
 
-    fn open(&mut self, name: &PadId) -> Result<FileDisk, ShelfBad> {
-        self.shelf.open(name)
+    fn open(&mut self, name: &PadId) -> Result<RealDisk, ShelfBad> {
+        match self.shelf.open(name) {
+            Ok(disk) => Ok(RealDisk { disk }),
+            Err(why) => Err(why),
+        }
     }
 }
