@@ -1,11 +1,12 @@
-//! What a server lacks that can't begin.
+//! What a server lacks that can't begin, and what folder can't be judged.
 
 use crate::shelf::RealShelf;
 use crate::spoken::Spoken;
-use ep_edge::Lacking;
+use ep_edge::{FileShelf, Lacking};
 use ep_units::NoMemory;
 use std::alloc::AllocError;
 use std::fmt::{Display, Formatter, Write};
+use std::fs::{File, Files};
 use std::thread::sleep;
 use std::time::Duration;
 use std::{fmt, fs};
@@ -15,7 +16,7 @@ const LOCK_TRIES: u32 = 100;
 
 const LOCK_WAIT_MS: u64 = 100;
 
-/// What a server lacks that can't begin.
+/// What a server lacks that can't begin, or a folder that is to be judged.
 #[derive(Clone, Copy, Debug, PartialEq, Eq)]
 pub enum Missing {
     Key,
@@ -48,6 +49,15 @@ impl From<NoMemory> for Missing {
 impl From<AllocError> for Missing {
     fn from(_error: AllocError) -> Missing {
         Missing::Memory
+    }
+}
+
+impl From<Lacking> for Missing {
+    fn from(lacking: Lacking) -> Missing {
+        match lacking {
+            Lacking::Folder => Missing::Folder,
+            Lacking::Lock => Missing::Lock,
+        }
     }
 }
 
@@ -115,4 +125,16 @@ fn shelf_at(rt: &HostRuntime, path: &str) -> Result<RealShelf, Missing> {
         }
     }
     Err(Missing::Lock)
+}
+
+/// The shelf over the folder that is judged. Nobody's end is waited for. Where no folder is judged each call of it fails.
+pub fn judged_at<R: Files<File = File> + AllocGlobal + Clone + Drop>(
+    rt: &R,
+    path: &str,
+) -> Result<FileShelf<R>, Missing> {
+    let shelf = FileShelf::open_at(rt, path)?;
+    match shelf.lacking() {
+        Some(lacking) if !path.is_empty() => Err(Missing::from(lacking)),
+        _ => Ok(shelf),
+    }
 }

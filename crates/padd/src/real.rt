@@ -1,10 +1,10 @@
 //! The real devices.
 
-use crate::missing::{Missing, Opened};
+use crate::missing::{Missing, Opened, judged_at};
 use crate::shelf::RealShelf;
 use crate::spoken::{Spoken, spoken_by};
 use ep_doors::{Host, Job, ThreadSpawner};
-use ep_edge::{FileShelf, StdSink, StdSource, SysClock, SysDraws};
+use ep_edge::{StdSink, StdSource, SysClock, SysDraws};
 use ep_keep_far::FarKeeper;
 use ep_keep_sql::{FileKeeper, SqlKeeper};
 use ep_net::{ApiStream, TcpDoors, WakeEar, WsLink};
@@ -144,8 +144,7 @@ where
     let spoken = spoken_by(alloc, words);
     let mut source = StdSource::new(rt.reader());
     let mut sink = StdSink::new(io::writer(&rt));
-    let folder = FileShelf::open_at(&rt, spoken.judged)?;
-    let mut shelf = ShownShelf::new(folder, rt, is_watched);
+    let mut shelf = ShownShelf::new(judged_at(&rt, spoken.judged)?, rt, is_watched);
     let mut doors = doors_of(rt, &spoken)?;
     let house = House::open(alloc, pads, keeper, LIMITS)?;
     let server = Server::new(alloc, house, SysClock::new(rt), SysDraws::new(rt), key)?;
