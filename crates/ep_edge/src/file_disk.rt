@@ -2,13 +2,13 @@
 
 ghost use Rattle.std.specs.Prelude.{◌≡◌};
 
-use crate::mending::{length_of, mended};
+use crate::body::Body;
+use crate::mending::mended;
 use crate::place::Place;
 use ep_outside::{Device, Disk, Failed};
 use ep_units::NoMemory;
 use std::fs::{File, Files};
 use std::io;
-use std::os::unix::fs::FileExt;
 
 /// An open file as a disk.
 ///
@@ -18,7 +18,7 @@ use std::os::unix::fs::FileExt;
 pub struct FileDisk<R: Files<File = File>> {
     files: R,
     place: Place,
-    file: File,
+    body: Body,
     // the calls and the bytes for which there is room
     calls: u64,
     bytes: u64,
@@ -32,7 +32,7 @@ impl<R: Files<File = File> + Drop> Drop for FileDisk<R> {
         let FileDisk {
             files: _,
             place: _,
-            file: _,
+            body: _,
             calls: _,
             bytes: _,
             is_doubtful: _,
@@ -46,11 +46,18 @@ impl<R: Files<File = File>> FileDisk<R> {
     pub fn new(files: R, place: Place, file: File) -> FileDisk<R>
         ensures { ⟦<FileDisk<R> as Device>⟧.failures result ≡ 0 }
     {
+        FileDisk::of(files, place, Body::File(file))
+    }
+
+    /// The disk of what stands in this place.
+    pub(crate) fn of(files: R, place: Place, body: Body) -> FileDisk<R>
+        ensures { ⟦<FileDisk<R> as Device>⟧.failures result ≡ 0 }
+    {
         let is_doubtful = place.is_marked(&files);
         FileDisk {
             files,
             place,
-            file,
+            body,
             calls: 0,
             bytes: 0,
             is_doubtful,
@@ -92,14 +99,14 @@ impl<R: Files<File = File>> Disk for FileDisk<R> {
     ghost reads_as_left = { λ _. tt };
 
     fn length(&mut self) -> Result<u64, Failed> {
-        match length_of(&self.file) {
+        match self.body.length() {
             Ok(length) => Ok(length),
             Err(_) => Err(self.fault()),
         }
     }
 
     fn read(&mut self, at: u64, into: &mut [u8]) -> Result<(), Failed> {
-        match self.file.read_exact_at(into, at) {
+        match self.body.read(at, into) {
             Ok(()) => Ok(()),
             Err(_) => Err(self.fault()),
         }
@@ -108,7 +115,7 @@ impl<R: Files<File = File>> Disk for FileDisk<R> {
     fn write_at(&mut self, at: u64, bytes: &[u8]) -> Result<(), Failed> {
         self.calls -= 1;
         self.bytes -= bytes.len() as u64;
-        match self.file.write_all_at(bytes, at) {
+        match self.body.write(at, bytes) {
             Ok(()) => Ok(()),
             Err(_) => Err(self.fault()),
         }
@@ -116,7 +123,7 @@ impl<R: Files<File = File>> Disk for FileDisk<R> {
 
     fn cut(&mut self, to: u64) -> Result<(), Failed> {
         self.calls -= 1;
-        match self.file.set_len(to) {
+        match self.body.cut(to) {
             Ok(()) => Ok(()),
             Err(_) => Err(self.fault()),
         }
@@ -143,16 +150,16 @@ impl<R: Files<File = File>> FileDisk<R> {
 
     // All that reads from the file is on the disk. Of one in doubt a sync would say nothing.
     fn settle(&mut self) -> io::Result<()>
-        ensures ok { OnOk result (self.new ≡ record self.old { file = self.new.file; is_doubtful = false }) }
+        ensures ok { OnOk result (self.new ≡ record self.old { body = self.new.body; is_doubtful = false }) }
         ensures err { OnErr result (self.new ≡ record self.old { is_doubtful = true }) }
-        ensures same { self.old.is_doubtful ≡ false → self.new.file ≡ self.old.file }
+        ensures same { self.old.is_doubtful ≡ false → self.new.body ≡ self.old.body }
     {
         if self.is_doubtful {
-            self.file = mended(&self.files, &self.place, &self.file)?;
+            self.body = mended(&self.files, &self.place, &self.body)?;
             self.is_doubtful = false;
             return Ok(());
         }
-        let synced = self.file.sync_data();
+        let synced = self.body.sync();
         if synced.is_err() {
             self.is_doubtful = true;
             self.place.mark(&self.files);

@@ -4,6 +4,7 @@ ghost use Rattle.std.specs.Prelude.{◌≡◌, ◌≤◌, IfOk, IsTrue};
 ghost use Rattle.ep_outside.specs.Outside.{HasRisen};
 ghost use Rattle.ep_outside.specs.Shelf.{rises};
 
+use crate::body::Body;
 use crate::file_disk::FileDisk;
 use crate::naming::{file_name, id_of};
 use crate::ordered::in_order;
@@ -117,6 +118,14 @@ fn lock_file<R: Files<File = File>>(rt: &R, path: &str) -> io::Result<File> {
         .open(rt, path)
 }
 
+// Whether what stands at a path is no file, but a folder or a link that leads nowhere.
+fn is_no_file<R: Files<File = File>>(rt: &R, path: &str) -> bool {
+    match fs::metadata(rt, path) {
+        Ok(found) => !found.is_file(),
+        Err(_) => fs::symlink_metadata(rt, path).is_ok(),
+    }
+}
+
 impl Folder {
     // Opens the folder, and takes its lock.
     fn open<R: Files<File = File> + AllocGlobal>(
@@ -153,10 +162,19 @@ impl Folder {
     {
         let alloc = rt.alloc();
         let place = Place::new(alloc, self.path.as_str(), file_name(alloc, id)?.as_str())?;
-        let file = self.file(rt, place.path()).map_err(bad)?;
+        let body = self.body(rt, place.path()).map_err(bad)?;
         match rt.clone() {
-            Ok(files) => Ok(FileDisk::new(files, place, file)),
+            Ok(files) => Ok(FileDisk::of(files, place, body)),
             Err(_) => Err(ShelfBad::NoMemory),
+        }
+    }
+
+    // What stands at a path, where a file is made if nothing does.
+    fn body<R: Files<File = File>>(&mut self, rt: &R, path: &str) -> io::Result<Body> {
+        match self.file(rt, path) {
+            Ok(file) => Ok(Body::File(file)),
+            Err(_) if is_no_file(rt, path) => Ok(Body::Other),
+            Err(error) => Err(error),
         }
     }
 

@@ -5,6 +5,7 @@
 //! It is not for what bytes mean.
 #![tactic(auto)]
 
+mod body;
 mod file_disk;
 mod file_shelf;
 mod mending;

@@ -2,11 +2,11 @@
 
 use crate::folders::{fresh_folder, pad};
 use ep_edge::FileShelf;
-use ep_outside::{Device, Shelf, ShelfBad};
+use ep_outside::{Device, Disk, Failed, Shelf, ShelfBad};
 use ep_units::PadId;
 use std::alloc::Global;
 use std::fs;
-use std::os::unix::fs::MetadataExt;
+use std::os::unix::fs::{MetadataExt, symlink};
 use std::test::Fail;
 
 type HostShelf = FileShelf<HostRuntime>;
@@ -63,6 +63,7 @@ fn names_of_pads_alone(rt: HostRuntime) -> Result<(), Fail> {
     ] {
         fresh_folder(&rt, "named.shelf")?;
         fs::write(&rt, "named.shelf/6A.pad", "")?;
+        fs::write(&rt, "named.shelf/61.pad.mending", "")?;
         fs::write(&rt, "named.shelf/directory.db", "")?;
         assert!(rt;
             lists_made(&rt, "named.shelf", made, listed)?,
@@ -105,4 +106,33 @@ fn one_server_a_folder(rt: HostRuntime) -> Result<(), Fail> {
     assert!(rt; opens(&rt, "locked.shelf", &id)?);
     assert!(rt; is_refused(&rt, "no/such/folder", &id)?);
     Ok(fs::remove_dir_all(&rt, "locked.shelf")?)
+}
+
+// It reads as a file that is no journal, and takes nothing.
+fn is_no_journal(shelf: &mut HostShelf, id: &PadId) -> Result<bool, Fail> {
+    let mut disk = shelf.open(id)?;
+    let mut bytes = [1; 16];
+    disk.read(0, &mut bytes)?;
+    let reads = disk.length()? == 16 && bytes == [0; 16] && disk.read(1, &mut bytes) == Err(Failed);
+    disk.reserve(1)?;
+    let is_unwritten = disk.write_at(0, b"E") == Err(Failed) && disk.cut(0) == Err(Failed);
+    Ok(reads && is_unwritten && disk.sync().is_ok() && disk.faults() == 3)
+}
+
+#[test]
+fn what_is_no_file(rt: HostRuntime) -> Result<(), Fail> {
+    fresh_folder(&rt, "other.shelf")?;
+    fs::create_dir(&rt, "other.shelf/61.pad")?;
+    for (name, to) in [("62", "nowhere"), ("63", "63.pad"), ("64", ".")] {
+        let link = format!(in rt.alloc(); "other.shelf/{name}.pad")?;
+        symlink(&rt, to, link.as_str())?;
+    }
+    let mut shelf = FileShelf::open_at(&rt, "other.shelf")?;
+    let names = ["a", "b", "c", "d"];
+    assert!(rt; lists(rt.alloc(), &mut shelf, &names)?);
+    for name in names {
+        let id = pad(rt.alloc(), name)?;
+        assert!(rt; is_no_journal(&mut shelf, &id)?, "at {name}");
+    }
+    Ok(fs::remove_dir_all(&rt, "other.shelf")?)
 }
