@@ -11,7 +11,7 @@ use crate::few::Few;
 use crate::host::{Absent, server};
 use crate::outcome::outcome;
 use anyhow::{Context, Result};
-use ep_net::TcpDoors;
+use ep_net::{Bounds, TcpDoors};
 use ep_units::NoMemory;
 use std::alloc::Global;
 use std::net::{Net, SocketAddr};
@@ -52,7 +52,8 @@ fn main(rt: HostRuntime) -> Result<()> {
         lines.push_str(&line?)?;
         lines.push('\n')?;
     }
-    let doors = TcpDoors::open(rt, alloc, ANY, ANY)?;
+    let bounds = Bounds::of_connections(1);
+    let doors = TcpDoors::open(rt, alloc, ANY, ANY, bounds)?;
     let address = doors.pads_address().context("no port")?;
     let writer = thread::spawn(&rt, move || write(&rt, alloc, address, &lines))?;
     let served = serve(&rt, alloc, doors)?;

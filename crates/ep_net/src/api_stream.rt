@@ -4,9 +4,8 @@ ghost use Rattle.std.specs.Prelude.{◌≡◌};
 ghost use Rattle.std.specs.Io.{ReadsAtMost};
 ghost use Rattle.ep_outside.specs.Outside.{HasRisen};
 
-use crate::patience::{MOST_TURNS, Patience};
-use crate::waiting::{Waiting, is_gone, would_block};
 use ep_outside::{Device, Failed, Got, Sink, Source};
+use ep_ws::{MOST_TURNS, Patience, Place, Since, Waiting, is_gone, part, would_block};
 use mio::net::TcpStream;
 use mio::{Interest, Token};
 use std::alloc::Global;
@@ -22,14 +21,14 @@ const SOCKET: Token = Token(0);
 struct Peer {
     stream: TcpStream,
     waiting: Waiting,
-    patience: Patience,
+    since: Since,
 }
 
 impl Peer {
     fn over<N: Net>(
         net: &N,
         alloc: Global,
-        patience: Patience,
+        since: Since,
         mut stream: TcpStream,
     ) -> io::Result<Peer> {
         let waiting = Waiting::new(net, alloc)?;
@@ -39,13 +38,13 @@ impl Peer {
         Ok(Peer {
             stream,
             waiting,
-            patience,
+            since,
         })
     }
 
     // Waits until the peer sent or took something, for as long as there is patience.
     fn wait<C: Clock>(&mut self, clock: &C) -> io::Result<()> {
-        match self.patience.left_ms(clock) {
+        match self.since.left_of(Patience::USUAL.call, clock) {
             Some(left) => self.waiting.wait(left),
             None => Err(Error::from(ErrorKind::TimedOut)),
         }
@@ -85,39 +84,52 @@ impl Peer {
 /// A caller of the API, over its socket.
 ///
 /// It is waited for ten seconds in all, from its taking on: what would have to wait longer fails. A peer that is gone
-/// has sent all, also where it left by a reset. One that failed is closed, and fails from then on.
-pub struct ApiStream<C> {
+/// has sent all, also where it left by a reset. One that failed is closed, and fails from then on. At the end what still
+/// comes is read away for a while, so that a caller who sends more than is read hears its reply.
+pub struct ApiStream<C: Clock + Drop> {
     clock: C,
     // none where it failed, or could not be waited for
     peer: Option<Peer>,
+    place: Place,
     faults: u64,
 }
 
-impl<C: Drop> Drop for ApiStream<C> {
+impl<C: Clock + Drop> Drop for ApiStream<C> {
     fn drop(self) {
         let ApiStream {
-            clock: _,
-            peer: _,
+            clock,
+            peer,
+            place: _,
             faults: _,
         } = self;
+        if let Some(mut peer) = peer {
+            part(&clock, &mut peer.stream, &mut peer.waiting);
+        }
     }
 }
 
-impl<C: Clock> ApiStream<C> {
+impl<C: Clock + Drop> ApiStream<C> {
     /// A caller over its stream, which does not block. Where the stream cannot be waited for, each call fails.
-    pub fn taken<N: Net>(net: &N, alloc: Global, clock: C, stream: TcpStream) -> ApiStream<C>
+    pub fn taken<N: Net>(
+        net: &N,
+        alloc: Global,
+        clock: C,
+        stream: TcpStream,
+        place: Place,
+    ) -> ApiStream<C>
         ensures { ⟦<ApiStream<C> as Device>⟧.failures result ≡ 0 }
     {
-        let patience = Patience::begin(&clock);
+        let since = Since::now(&clock);
         ApiStream {
             clock,
-            peer: Peer::over(net, alloc, patience, stream).ok(),
+            peer: Peer::over(net, alloc, since, stream).ok(),
+            place,
             faults: 0,
         }
     }
 }
 
-impl<C> ApiStream<C> {
+impl<C: Clock + Drop> ApiStream<C> {
     // Counts a fault, and closes the socket.
     fn fail(&mut self)
         ensures { HasRisen self.old.faults self.new.faults }
@@ -127,7 +139,7 @@ impl<C> ApiStream<C> {
     }
 }
 
-impl<C> Device for ApiStream<C> {
+impl<C: Clock + Drop> Device for ApiStream<C> {
     ghost use Rattle.std.specs.Prelude.{false};
     ghost use Rattle.std.proofs.Common.{sym, true≢false};
 
@@ -142,7 +154,7 @@ impl<C> Device for ApiStream<C> {
     }
 }
 
-impl<C: Clock> Source for ApiStream<C> {
+impl<C: Clock + Drop> Source for ApiStream<C> {
     ghost use Rattle.std.specs.Prelude.{None};
 
     ghost left = { λ _. None };
@@ -163,7 +175,7 @@ impl<C: Clock> Source for ApiStream<C> {
     }
 }
 
-impl<C: Clock> Sink for ApiStream<C> {
+impl<C: Clock + Drop> Sink for ApiStream<C> {
     ghost use Rattle.std.specs.Prelude.{None};
 
     ghost held = { λ _. None };

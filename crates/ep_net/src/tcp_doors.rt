@@ -4,13 +4,11 @@ ghost use Rattle.std.specs.Prelude.{◌≡◌, IfOk};
 ghost use Rattle.ep_outside.specs.Outside.{HasRisen};
 
 use crate::api_stream::ApiStream;
-use crate::patience::MOST_TURNS;
-use crate::waiting::{Waiting, is_gone, would_block};
-use crate::ws_link::WsLink;
 use ep_doors::{Came, Doors};
 use ep_link::LinkBad;
 use ep_outside::Device;
 use ep_units::NoMemory;
+use ep_ws::{Bounds, MOST_TURNS, Patience, Place, Places, Waiting, WsLink, is_gone, would_block};
 use mio::net::{TcpListener, TcpStream};
 use mio::{Interest, Token};
 use std::alloc::Global;
@@ -57,6 +55,7 @@ impl Door {
 struct Caller {
     door: Door,
     stream: TcpStream,
+    place: Place,
 }
 
 /// Both sockets, and whose turn it is.
@@ -67,6 +66,7 @@ struct Listening {
     waiting: Waiting,
     // the door that is tried first, since the other had the last caller
     first: Door,
+    places: Places,
 }
 
 fn bind<N: Net>(net: &N, address: &str) -> io::Result<TcpListener> {
@@ -77,7 +77,13 @@ fn bind<N: Net>(net: &N, address: &str) -> io::Result<TcpListener> {
 }
 
 impl Listening {
-    fn open<N: Net>(net: &N, alloc: Global, pads: &str, api: &str) -> io::Result<Listening> {
+    fn open<N: Net>(
+        net: &N,
+        alloc: Global,
+        pads: &str,
+        api: &str,
+        bounds: Bounds,
+    ) -> io::Result<Listening> {
         let mut pads = bind(net, pads)?;
         let mut api = bind(net, api)?;
         let waiting = Waiting::new(net, alloc)?;
@@ -88,10 +94,12 @@ impl Listening {
             api,
             waiting,
             first: Door::Pads,
+            places: Places::new(alloc, bounds)?,
         })
     }
 
-    // A caller who is there, or who comes in about 20 milliseconds.
+    // A caller who is there, or who comes in about 20 milliseconds. As long as all places are taken, who comes stays at
+    // the door.
     fn next(&mut self) -> io::Result<Option<Caller>> {
         if let Some(caller) = self.there()? {
             return Ok(Some(caller));
@@ -101,10 +109,18 @@ impl Listening {
     }
 
     fn there(&mut self) -> io::Result<Option<Caller>> {
+        if self.places.are_taken() {
+            return Ok(None);
+        }
         for door in [self.first, self.first.other()] {
             if let Some(stream) = taken(self.listener(door))? {
                 self.first = door.other();
-                return Ok(Some(Caller { door, stream }));
+                let place = self.places.take()?;
+                return Ok(Some(Caller {
+                    door,
+                    stream,
+                    place,
+                }));
             }
         }
         Ok(None)
@@ -147,7 +163,8 @@ fn is_broken(error: &Error) -> bool {
 
 /// Two listening sockets: at one come callers of pads, at the other callers of the API; or the way to a server's door.
 ///
-/// Taking a caller only takes the socket. Where both doors have one, they take turns.
+/// Taking a caller only takes the socket. Where both doors have one, they take turns. Connections have a bound: at the
+/// bound who comes stays at the door.
 pub struct TcpDoors<R> {
     rt: R,
     alloc: Global,
@@ -175,11 +192,17 @@ impl<R: Drop> Drop for TcpDoors<R> {
 impl<R: Net + RandomSource + Clock + Copy + Drop> TcpDoors<R> {
     /// Doors at two addresses as `127.0.0.1:9001`; at port 0 the system chooses one. Where one of them is not to be had,
     /// each call fails.
-    pub fn open(rt: R, alloc: Global, pads: &str, api: &str) -> Result<TcpDoors<R>, NoMemory>
+    pub fn open(
+        rt: R,
+        alloc: Global,
+        pads: &str,
+        api: &str,
+        bounds: Bounds,
+    ) -> Result<TcpDoors<R>, NoMemory>
         ensures faultless { IfOk result (λ d. ⟦<TcpDoors<R> as Device>⟧.failures d ≡ 0) }
         ensures fresh { IfOk result (λ d. ⟦<TcpDoors<R> as Doors>⟧.count d ≡ 0) }
     {
-        let listening = match Listening::open(&rt, alloc, pads, api) {
+        let listening = match Listening::open(&rt, alloc, pads, api, bounds) {
             Ok(listening) => Some(listening),
             Err(error) if error.kind() == ErrorKind::OutOfMemory => return Err(NoMemory),
             Err(_) => None,
@@ -283,10 +306,19 @@ impl<R: Net + RandomSource + Clock + Copy + Drop> Doors for TcpDoors<R> {
             }
         };
         self.given = self.given.saturating_add(1);
-        let Caller { door, stream } = caller;
+        let Caller {
+            door,
+            stream,
+            place,
+        } = caller;
         match door {
-            Door::Pads => Came::Pad(WsLink::taken(self.rt, self.alloc, stream)),
-            Door::Api => Came::Api(ApiStream::taken(&self.rt, self.alloc, self.rt, stream)),
+            Door::Pads => {
+                let patience = Patience::USUAL;
+                Came::Pad(WsLink::taken(self.rt, self.alloc, stream, patience, place))
+            }
+            Door::Api => {
+                Came::Api(ApiStream::taken(&self.rt, self.alloc, self.rt, stream, place))
+            }
         }
     }
 

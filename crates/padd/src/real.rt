@@ -7,7 +7,7 @@ use ep_doors::{Host, Job, ThreadSpawner};
 use ep_edge::{StdSink, StdSource, SysClock, SysDraws};
 use ep_keep_far::FarKeeper;
 use ep_keep_sql::{FileKeeper, SqlKeeper};
-use ep_net::{ApiStream, TcpDoors, WakeEar, WsLink};
+use ep_net::{ApiStream, Bounds, TcpDoors, WakeEar, WsLink, connections_under};
 use ep_outside::Limits;
 use ep_pad_port::House;
 use ep_run::{Status, run};
@@ -15,7 +15,6 @@ use ep_serve::{Server, Work};
 use ep_shown::ShownShelf;
 use ep_units::NoMemory;
 use std::fs::{File, Files, OpenOptions};
-use std::io;
 use std::io::{Eprint, Input, Print};
 use std::net::Net;
 use std::os::unix::fs::OpenOptionsExt;
@@ -23,6 +22,10 @@ use std::random::RandomSource;
 use std::sync::Wait;
 use std::thread::Threads;
 use std::time::Clock;
+use std::{fs, io};
+
+// Where the system tells what a process may have.
+const LIMITS_OF_PROCESS: &str = "/proc/self/limits";
 
 // Read and written by the owner alone.
 const OWNER_ALONE: u32 = 0o600;
@@ -84,15 +87,18 @@ impl<R: Wait + Net + RandomSource + Clock + Copy + Drop> Host<WsLink<R>, ApiStre
     }
 }
 
-/// The doors that the words speak of, or the way to them.
-fn doors_of<R: Net + RandomSource + Clock + AllocGlobal + Copy + Drop>(
+/// The doors that the words speak of, or the way to them. Connections are as many as the process has room for.
+fn doors_of<R: Files<File = File> + Net + RandomSource + Clock + AllocGlobal + Copy + Drop>(
     rt: R,
     spoken: &Spoken<'_>,
 ) -> Result<TcpDoors<R>, Missing> {
+    let alloc = rt.alloc();
     if !spoken.server.is_empty() {
-        return Ok(TcpDoors::calling(rt, rt.alloc(), spoken.server)?);
+        return Ok(TcpDoors::calling(rt, alloc, spoken.server)?);
     }
-    let doors = TcpDoors::open(rt, rt.alloc(), spoken.pads, spoken.api)?;
+    let limits = fs::read_to_string(&rt, LIMITS_OF_PROCESS).unwrap_or(String::new(alloc));
+    let bounds = Bounds::of_connections(connections_under(limits.as_str()));
+    let doors = TcpDoors::open(rt, alloc, spoken.pads, spoken.api, bounds)?;
     if spoken.serves && doors.pads_address().is_none() {
         return Err(Missing::Address);
     }

@@ -1,13 +1,14 @@
 //! Callers of the API.
 
-use ep_net::ApiStream;
+use ep_net::{ApiStream, Bounds, Places};
 use ep_outside::{Device, Failed, Got, Sink, Source};
+use std::alloc::Global;
 use std::cell::Cell;
-use std::io;
 use std::io::{Read, Write};
 use std::net::{TcpListener, TcpStream};
 use std::test::Fail;
 use std::time::{Clock, Duration};
+use std::{io, thread};
 
 /// A clock by which nearly ten seconds pass from one look to the next.
 #[derive(Drop)]
@@ -27,15 +28,17 @@ impl Clock for Hasty {
     }
 }
 
-// The next caller, over a stream that is hasty.
-fn taken(rt: &HostRuntime, listener: &TcpListener) -> io::Result<ApiStream<Hasty>> {
+// The next caller, over a stream by this clock.
+fn taken<C: Clock + Drop>(
+    rt: &HostRuntime,
+    listener: &TcpListener,
+    clock: C,
+) -> io::Result<ApiStream<C>> {
     let (stream, _) = listener.accept()?;
     stream.set_nonblocking(true)?;
     let stream = mio::net::TcpStream::from_std(stream);
-    let clock = Hasty {
-        looks: Cell::new(0),
-    };
-    Ok(ApiStream::taken(rt, rt.alloc(), clock, stream))
+    let place = Places::new(rt.alloc(), Bounds::of_connections(1))?.take()?;
+    Ok(ApiStream::taken(rt, rt.alloc(), clock, stream, place))
 }
 
 fn call(rt: &HostRuntime, listener: &TcpListener) -> io::Result<TcpStream> {
@@ -46,7 +49,10 @@ fn call(rt: &HostRuntime, listener: &TcpListener) -> io::Result<TcpStream> {
 fn called(rt: &HostRuntime) -> io::Result<(TcpStream, ApiStream<Hasty>)> {
     let listener = TcpListener::bind(rt, "127.0.0.1:0")?;
     let caller = call(rt, &listener)?;
-    let stream = taken(rt, &listener)?;
+    let clock = Hasty {
+        looks: Cell::new(0),
+    };
+    let stream = taken(rt, &listener, clock)?;
     Ok((caller, stream))
 }
 
@@ -92,5 +98,33 @@ fn a_caller_that_left_by_a_reset_has_sent_all(rt: HostRuntime) -> Result<(), Fai
     assert_eq!(rt; stream.faults(), 0);
     assert_eq!(rt; stream.write(b"y"), Err(Failed));
     assert_eq!(rt; stream.faults(), 1);
+    Ok(())
+}
+
+// Eight bytes are read, and the reply goes out.
+fn replies<C: Clock + Drop>(mut stream: ApiStream<C>) -> bool {
+    stream.read(&mut [0; 8]) == Got::Bytes(8) && stream.write(b"no").is_ok()
+}
+
+// Sends so many bytes, and hears the reply and the end.
+fn hears_reply(alloc: Global, mut caller: TcpStream, bytes: usize) -> io::Result<bool> {
+    let body = Vec::from_elem(alloc, b'x', bytes)?;
+    caller.write_all(&body)?;
+    let mut reply = [0; 2];
+    caller.read_exact(&mut reply)?;
+    Ok(&reply == b"no" && caller.read(&mut reply)? == 0)
+}
+
+#[test]
+fn who_sends_more_than_is_read_hears_the_reply(rt: HostRuntime) -> Result<(), Fail> {
+    for bytes in [8, 9, 30_000] {
+        let listener = TcpListener::bind(&rt, "127.0.0.1:0")?;
+        let caller = call(&rt, &listener)?;
+        let stream = taken(&rt, &listener, rt)?;
+        let replying = thread::spawn(&rt, move || replies(stream)).expect(&rt, "no thread");
+        let heard = hears_reply(rt.alloc(), caller, bytes);
+        assert!(rt; matches!(heard, Ok(true)), "of {bytes}");
+        assert!(rt; replying.join(&rt));
+    }
     Ok(())
 }

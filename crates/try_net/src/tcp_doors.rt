@@ -2,7 +2,7 @@
 
 use crate::ws_link::{echo, is_echoed, text_of};
 use ep_doors::{Came, Doors};
-use ep_net::{ApiStream, TcpDoors, WsLink};
+use ep_net::{ApiStream, Bounds, TcpDoors, WsLink, connections_under};
 use ep_outside::{Device, Got, Sink, Source};
 use std::alloc::{AllocError, Global};
 use std::io::{Read, Write};
@@ -19,6 +19,15 @@ const REPLY: &[u8] = b"HTTP/1.1 200 OK\r\n\r\n";
 
 // The system chooses the port.
 const ANY: &str = "127.0.0.1:0";
+
+const FEW: Bounds = Bounds {
+    connections: 3,
+    unfinished: 1_000,
+};
+
+fn open(rt: &HostRuntime) -> Result<TcpDoors<HostRuntime>, Fail> {
+    Ok(TcpDoors::open(*rt, rt.alloc(), ANY, ANY, FEW)?)
+}
 
 #[derive(Clone, Copy, Debug, PartialEq, Eq)]
 enum Who {
@@ -80,7 +89,7 @@ fn echoes<R: Net + RandomSource + Clock + Copy + Drop + Wait>(
 
 #[test]
 fn greets_a_caller_of_pads(rt: HostRuntime) -> Result<(), Fail> {
-    let mut doors = TcpDoors::open(rt, rt.alloc(), ANY, ANY)?;
+    let mut doors = open(&rt)?;
     assert_eq!(rt; turn(&rt, &mut doors), Who::Nobody);
     let address = doors.pads_address().expect(&rt, "no address");
     let address = text_of(rt.alloc(), address).expect(&rt, "no memory");
@@ -93,7 +102,7 @@ fn greets_a_caller_of_pads(rt: HostRuntime) -> Result<(), Fail> {
 }
 
 // What comes until there are so many bytes, or the end, or a fault.
-fn heard<C: Clock>(
+fn heard<C: Clock + Drop>(
     alloc: Global,
     stream: &mut ApiStream<C>,
     most: usize,
@@ -112,7 +121,7 @@ fn heard<C: Clock>(
     Ok(heard)
 }
 
-fn hears<C: Clock>(alloc: Global, stream: &mut ApiStream<C>, bytes: &[u8]) -> bool {
+fn hears<C: Clock + Drop>(alloc: Global, stream: &mut ApiStream<C>, bytes: &[u8]) -> bool {
     match heard(alloc, stream, bytes.len()) {
         Ok(heard) => heard.as_slice() == bytes,
         Err(_) => false,
@@ -147,7 +156,7 @@ fn asks<R: Net<Stream = TcpStream> + Clock>(rt: &R, address: SocketAddr) -> io::
 
 #[test]
 fn answers_a_caller_of_the_api(rt: HostRuntime) -> Result<(), Fail> {
-    let mut doors = TcpDoors::open(rt, rt.alloc(), ANY, ANY)?;
+    let mut doors = open(&rt)?;
     let address = doors.api_address().expect(&rt, "no address");
     let caller = thread::spawn(&rt, move || asks(&rt, address)).expect(&rt, "no thread");
     assert!(rt; answers(&rt, rt.alloc(), &mut doors));
@@ -158,7 +167,7 @@ fn answers_a_caller_of_the_api(rt: HostRuntime) -> Result<(), Fail> {
 
 #[test]
 fn doors_take_turns(rt: HostRuntime) -> Result<(), Fail> {
-    let mut doors = TcpDoors::open(rt, rt.alloc(), ANY, ANY)?;
+    let mut doors = open(&rt)?;
     let pads = doors.pads_address().expect(&rt, "no address");
     let api = doors.api_address().expect(&rt, "no address");
     let _first = TcpStream::connect(&rt, pads).expect(&rt, "no caller");
@@ -174,11 +183,53 @@ fn doors_take_turns(rt: HostRuntime) -> Result<(), Fail> {
 }
 
 #[test]
+fn at_the_bound_who_comes_waits(rt: HostRuntime) -> Result<(), Fail> {
+    let mut doors = open(&rt)?;
+    let pads = doors.pads_address().expect(&rt, "no address");
+    let api = doors.api_address().expect(&rt, "no address");
+    let mut callers = Vec::new(rt.alloc());
+    for address in [pads, api, pads, api] {
+        callers.push(TcpStream::connect(&rt, address)?)?;
+    }
+    let first = next_came(&rt, &mut doors);
+    let second = next_came(&rt, &mut doors);
+    let third = next_came(&rt, &mut doors);
+    assert!(rt; matches!(first, Came::Pad(_)) && matches!(third, Came::Pad(_)));
+    for _ in 0..3u32 {
+        assert_eq!(rt; turn(&rt, &mut doors), Who::Nobody);
+    }
+    drop(second);
+    assert_eq!(rt; turn(&rt, &mut doors), Who::Api);
+    assert_eq!(rt; doors.given(), 4);
+    assert_eq!(rt; doors.faults(), 0);
+    Ok(())
+}
+
+#[test]
+fn connections_are_as_many_as_there_is_room_for(rt: HostRuntime) -> Result<(), Fail> {
+    for (processes, files, connections) in [
+        ("unlimited", "unlimited", 4096),
+        ("95231", "1048576", 4096),
+        ("95231", "1024", 256),
+        ("30", "1024", 11),
+        ("7", "1024", 1),
+        ("30", "0", 1),
+    ] {
+        let limits = format!(in rt.alloc();
+            "Limit Soft Hard Units\nMax processes   {processes}   99999   processes\nMax open files   {files}   99999   files\n"
+        )?;
+        assert_eq!(rt; connections_under(&limits), connections);
+    }
+    assert_eq!(rt; connections_under(""), 4096);
+    Ok(())
+}
+
+#[test]
 fn doors_that_are_not_to_be_had(rt: HostRuntime) -> Result<(), Fail> {
     let taken = TcpListener::bind(&rt, ANY)?;
     let address = text_of(rt.alloc(), taken.local_addr()?)?;
     for api in [address.as_str(), "nowhere"] {
-        let mut doors = TcpDoors::open(rt, rt.alloc(), ANY, api)?;
+        let mut doors = TcpDoors::open(rt, rt.alloc(), ANY, api, FEW)?;
         assert!(rt; doors.pads_address().is_none());
         assert_eq!(rt; turn(&rt, &mut doors), Who::Failed);
         assert_eq!(rt; doors.faults(), 1);

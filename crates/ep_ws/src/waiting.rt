@@ -51,6 +51,11 @@ pub fn would_block(error: &Error) -> bool {
     error.kind() == ErrorKind::WouldBlock
 }
 
+/// A call is to be made again.
+pub fn is_interrupted(error: &Error) -> bool {
+    error.kind() == ErrorKind::Interrupted
+}
+
 /// The peer left without a word.
 pub fn is_gone(error: &Error) -> bool {
     matches!(

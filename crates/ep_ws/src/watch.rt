@@ -78,6 +78,10 @@ impl Watch {
         })
     }
 
+    pub fn waiting(&mut self) -> &mut Waiting {
+        &mut self.waiting
+    }
+
     /// Waits for the socket, so many milliseconds at most. A ring may end the wait, and is still to be heard.
     pub fn wait_for_socket(&mut self, ms: u64) -> io::Result<()> {
         self.waiting.wait(ms)

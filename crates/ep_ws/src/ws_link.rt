@@ -3,9 +3,12 @@
 ghost use Rattle.std.specs.Prelude.{◌≡◌, ◌≤◌, IfOk, IsErrOf};
 ghost use Rattle.ep_outside.specs.Outside.{HasRisen};
 
+use crate::frames::{Keys, Socket};
 use crate::greeting::{ask, greet};
-use crate::patience::{MOST_TURNS, Patience};
+use crate::patience::{MOST_TURNS, Patience, Since};
+use crate::places::{Place, Share};
 use crate::talk::Talk;
+use crate::vigil::Vigil;
 use crate::watch::{WakeEar, Watch};
 use ep_link::{Link, LinkBad, LinkGot};
 use ep_outside::Device;
@@ -17,13 +20,20 @@ use std::random::RandomSource;
 use std::sync::Wait;
 use std::time::Clock;
 use std::{io, mem};
-use tungstenite::Error;
+use tungstenite::{Error, RandomKeys};
+
+/// The most bytes of a message from a caller that the socket itself takes. It is twice what a reader takes, so that the
+/// reader does the refusing.
+const CALLERS_BYTES: usize = 8_388_608;
+
+/// The same of a message from a server.
+const SERVERS_BYTES: usize = 33_554_432;
 
 /// Where a link stands.
 #[derive(Drop)]
 enum Line<R> {
     /// The peer's handshake is still to be heard.
-    Fresh { stream: TcpStream, watch: Watch },
+    Fresh(Fresh),
     Open(Talk<R>),
     /// The peer is gone, or its handshake was refused.
     Closed,
@@ -31,25 +41,77 @@ enum Line<R> {
     Broken,
 }
 
+/// A peer before its handshake.
+#[derive(Drop)]
+struct Fresh {
+    stream: TcpStream,
+    watch: Watch,
+    share: Share,
+}
+
+impl Fresh {
+    fn over<N: Net>(
+        net: &N,
+        alloc: Global,
+        mut stream: TcpStream,
+        place: &Place,
+    ) -> io::Result<Fresh> {
+        // Without it a short message may lie for a while; that is no reason to refuse a caller.
+        let _ = stream.set_nodelay(true);
+        Ok(Fresh {
+            watch: Watch::over(net, alloc, &mut stream)?,
+            share: place.share()?,
+            stream,
+        })
+    }
+
+    // Hears the peer's handshake.
+    fn greeted<R: RandomSource + Clock + Drop>(
+        self,
+        rt: &R,
+        alloc: Global,
+        patience: Patience,
+    ) -> Result<Talk<R>, Error> {
+        let Fresh {
+            stream,
+            mut watch,
+            share,
+        } = self;
+        let stream = greet(rt, alloc, stream, patience, &mut watch)?;
+        let socket = Socket::new(alloc, stream, Keys::Bare, CALLERS_BYTES, Some(share));
+        Ok(Talk::new(socket, watch, Some(Vigil::begin(rt, patience))))
+    }
+}
+
 /// A WebSocket as a link.
 ///
-/// A link that was taken at a door makes its handshake at the first receive. One that failed fails from then on; one
-/// for whose message there was no memory is closed, since what follows would be taken for that message.
-pub struct WsLink<R> {
+/// A link that was taken at a door makes its handshake at the first receive. A caller who then is silent, or takes too
+/// long for a message, is let go: the link is closed. A link that failed fails from then on; one for whose message there
+/// was no memory is closed, since what follows would be taken for that message. However it ends, the peer is told why by
+/// a close.
+pub struct WsLink<R: RandomSource + Clock + Drop> {
     rt: R,
     alloc: Global,
     line: Line<R>,
+    patience: Patience,
+    // none for a link to a server
+    place: Option<Place>,
     faults: u64,
 }
 
-impl<R: Drop> Drop for WsLink<R> {
+impl<R: RandomSource + Clock + Drop> Drop for WsLink<R> {
     fn drop(self) {
         let WsLink {
-            rt: _,
+            rt,
             alloc: _,
-            line: _,
+            line,
+            patience: _,
+            place: _,
             faults: _,
         } = self;
+        if let Line::Open(talk) = line {
+            talk.end(&rt);
+        }
     }
 }
 
@@ -64,6 +126,8 @@ impl<R: Net + RandomSource + Clock + Copy + Drop> WsLink<R> {
                 rt,
                 alloc,
                 line: Line::Open(talk),
+                patience: Patience::USUAL,
+                place: None,
                 faults: 0,
             }),
             Err(Error::OutOfMemory) => Err(LinkBad::NoMemory),
@@ -73,13 +137,25 @@ impl<R: Net + RandomSource + Clock + Copy + Drop> WsLink<R> {
 
     /// A link to a peer that asked for it, over its stream, which does not block. Where the stream cannot be waited
     /// for, each call fails.
-    pub fn taken(rt: R, alloc: Global, stream: TcpStream) -> WsLink<R>
+    pub fn taken(
+        rt: R,
+        alloc: Global,
+        stream: TcpStream,
+        patience: Patience,
+        place: Place,
+    ) -> WsLink<R>
         ensures { ⟦<WsLink<R> as Device>⟧.failures result ≡ 0 }
     {
+        let line = match Fresh::over(&rt, alloc, stream, &place) {
+            Ok(fresh) => Line::Fresh(fresh),
+            Err(_) => Line::Broken,
+        };
         WsLink {
-            line: line_over(&rt, alloc, stream),
             rt,
             alloc,
+            line,
+            patience,
+            place: Some(place),
             faults: 0,
         }
     }
@@ -91,16 +167,14 @@ impl<R: RandomSource + Clock + Copy + Drop> WsLink<R> {
         ensures { self.new.faults ≡ self.old.faults }
     {
         match mem::replace(&mut self.line, Line::Closed) {
-            Line::Fresh { stream, mut watch } => {
-                match greet(&self.rt, self.alloc, stream, &mut watch) {
-                    Ok(socket) => {
-                        self.line = Line::Open(Talk { socket, watch });
-                        None
-                    }
-                    Err(Error::OutOfMemory) => Some(LinkGot::NoMemory),
-                    Err(_) => Some(LinkGot::Closed),
+            Line::Fresh(fresh) => match fresh.greeted(&self.rt, self.alloc, self.patience) {
+                Ok(talk) => {
+                    self.line = Line::Open(talk);
+                    None
                 }
-            }
+                Err(Error::OutOfMemory) => Some(LinkGot::NoMemory),
+                Err(_) => Some(LinkGot::Closed),
+            },
             line => {
                 self.line = line;
                 None
@@ -115,9 +189,9 @@ impl<R: RandomSource + Clock + Copy + Drop> WsLink<R> {
             return refused;
         }
         match &mut self.line {
-            Line::Open(talk) => talk.recv(self.alloc),
+            Line::Open(talk) => talk.recv(&self.rt),
             Line::Closed => LinkGot::Closed,
-            Line::Fresh { .. } | Line::Broken => LinkGot::Failed,
+            Line::Fresh(_) | Line::Broken => LinkGot::Failed,
         }
     }
 
@@ -125,8 +199,17 @@ impl<R: RandomSource + Clock + Copy + Drop> WsLink<R> {
         ensures { self.new.faults ≡ self.old.faults }
     {
         match &mut self.line {
-            Line::Open(talk) => talk.send(&self.rt, self.alloc, text),
+            Line::Open(talk) => talk.send(&self.rt, text),
             _ => Err(LinkBad::Failed),
+        }
+    }
+
+    // Ends the conversation, where there is one.
+    fn leave(&mut self, line: Line<R>)
+        ensures { self.new.faults ≡ self.old.faults }
+    {
+        if let Line::Open(talk) = mem::replace(&mut self.line, line) {
+            talk.end(&self.rt);
         }
     }
 
@@ -135,20 +218,11 @@ impl<R: RandomSource + Clock + Copy + Drop> WsLink<R> {
         ensures { HasRisen self.old.faults self.new.faults }
     {
         self.faults = self.faults.saturating_add(1);
-        self.line = Line::Broken;
+        self.leave(Line::Broken);
     }
 }
 
-fn line_over<N: Net, R>(net: &N, alloc: Global, mut stream: TcpStream) -> Line<R> {
-    // Without it a short message may lie for a while; that is no reason to refuse a caller.
-    let _ = stream.set_nodelay(true);
-    match Watch::over(net, alloc, &mut stream) {
-        Ok(watch) => Line::Fresh { stream, watch },
-        Err(_) => Line::Broken,
-    }
-}
-
-impl<R> Device for WsLink<R> {
+impl<R: RandomSource + Clock + Drop> Device for WsLink<R> {
     ghost use Rattle.std.specs.Prelude.{false};
     ghost use Rattle.std.proofs.Common.{sym, true≢false};
 
@@ -177,7 +251,7 @@ impl<R: RandomSource + Clock + Copy + Drop> Link for WsLink<R> {
                 LinkGot::Failed
             }
             LinkGot::NoMemory => {
-                self.line = Line::Closed;
+                self.leave(Line::Closed);
                 LinkGot::NoMemory
             }
             got => got,
@@ -196,8 +270,8 @@ impl<R: RandomSource + Clock + Copy + Drop> Link for WsLink<R> {
 
     fn ear(&self) -> Option<WakeEar> {
         match &self.line {
-            Line::Fresh { watch, .. } => watch.ear(),
-            Line::Open(talk) => talk.watch.ear(),
+            Line::Fresh(fresh) => fresh.watch.ear(),
+            Line::Open(talk) => talk.watch().ear(),
             _ => None,
         }
     }
@@ -212,24 +286,26 @@ fn called<R: Net + RandomSource + Clock + Copy + Drop>(
     let Ok(addr) = address.parse::<SocketAddr>() else {
         return Err(Error::Url);
     };
-    let patience = Patience::begin(rt);
+    let since = Since::now(rt);
     let mut stream = TcpStream::connect(rt, addr)?;
     let mut watch = Watch::over(rt, alloc, &mut stream)?;
-    reach(rt, patience, &stream, &mut watch)?;
+    reach(rt, since, &stream, &mut watch)?;
     let _ = stream.set_nodelay(true);
-    let socket = ask(rt, alloc, stream, address, patience, &mut watch)?;
-    Ok(Talk { socket, watch })
+    let stream = ask(rt, alloc, stream, address, since, &mut watch)?;
+    let keys = Keys::Drawn(RandomKeys::new(*rt));
+    let socket = Socket::new(alloc, stream, keys, SERVERS_BYTES, None);
+    Ok(Talk::new(socket, watch, None))
 }
 
 // Waits until the connection is made.
 fn reach<C: Clock>(
     clock: &C,
-    patience: Patience,
+    since: Since,
     stream: &TcpStream,
     watch: &mut Watch,
 ) -> io::Result<()> {
     for _ in 0..MOST_TURNS {
-        let Some(left) = patience.left_ms(clock) else {
+        let Some(left) = since.left_of(Patience::USUAL.call, clock) else {
             return Err(io::Error::from(ErrorKind::TimedOut));
         };
         watch.wait_for_socket(left)?;
