@@ -2,12 +2,9 @@
 use Rattle.std.proofs.Common.{◌≡◌, ℕ, Bool, true, false, not, List, Option, Some, None, refl, sym, ap, ◌∙◌, subst}
 use Rattle.std.specs.Prelude.{Ok}
 use Rattle.ep_outside.specs.Disk.{Contents}
-use Rattle.ep_history.specs.Machine.{journal_fault}
-use Rattle.ep_history.specs.Pad.{PadState}
 use Rattle.ep_history.specs.declared.pad_bad.PadBad.{PadBad}
 use Rattle.ep_history.specs.declared.pad_bad.PadBad.TheVariants.{JournalFull}
 use Rattle.ep_history.specs.declared.record.Record.{Record}
-use Rattle.ep_pad_file.specs.Standing.{size}
 use Rattle.ep_history.proofs.Lists.{none_some, some_same}
 use Rattle.ep_schedule.specs.World.{WorldState, Event as AnEvent}
 use Rattle.ep_schedule.specs.Kepts.{Kepts}
@@ -16,11 +13,11 @@ use Rattle.ep_event.specs.declared.event.Event.TheVariants.{Create, SetText, Del
 use Rattle.ep_event.specs.declared.shown.Shown.{Shown}
 use Rattle.ep_world.specs.Events.{event_at, happened, kept_happened}
 use Rattle.ep_world.specs.Shows.{shows}
-use Rattle.ep_world.specs.Journal.{full_by, journal_after, machine_of, no_room, record_at, shows_full}
+use Rattle.ep_world.specs.Journal.{full_at, full_for, journal_after, no_room, shows_full}
 use Rattle.ep_world.specs.Standing.{Comes, IsPlayed, IsRun}
 use Rattle.ep_world.specs.Standing.IsPlayed.{IsEvent, HasNoRoom}
 use Rattle.ep_world.specs.declared.world.World.{World}
-use Rattle.ep_world.proofs.Calls.{journal-full}
+use Rattle.ep_world.proofs.Lengths.{full_bytes}
 use Rattle.ep_world.proofs.Leading.{more}
 use Rattle.ep_make.specs.Made.{IsOf, is_overfull, is_stop}
 use Rattle.ep_make.specs.Round.{after, does, is_nothing}
@@ -44,15 +41,16 @@ overfull e b s f h = go e f.0 (sym (ap (no_room e) f.1) ∙ h)
     go (Hear n) bytes h = none_some h
     go (Lose n) bytes h = none_some h
     go (Resume n) bytes h = sym (ap is_overfull (some_same h))
-    go (Stop at) bytes h = none_some h
+    go (Stop None) bytes h = sym (ap is_overfull (some_same h))
+    go (Stop (Some at)) bytes h = sym (ap is_overfull (some_same h))
 
-overfull-by : (rs : List Record) (pad : PadState) (e : Event) (s : Shown) (o : Option Record) → shows_full e (full_by rs pad o) ≡ Some s → is_overfull s ≡ true
-overfull-by rs pad e s None h = none_some h
-overfull-by rs pad e s (Some r) h = go (journal_fault size (machine_of rs pad) r) refl h
+-- whatever has no room is shown so
+overfull-at : (rs : List Record) (w : WorldState) (kept : Bool) (e : Event) (s : Shown) → full_at rs w 0 kept e ≡ Some s → is_overfull s ≡ true
+overfull-at rs w kept e s h = go (full_for rs w 0 kept e) refl h
   where
-    go : (f : Option PadBad) → journal_fault size (machine_of rs pad) r ≡ f → shows_full e f ≡ Some s → is_overfull s ≡ true
+    go : (f : Option PadBad) → full_for rs w 0 kept e ≡ f → shows_full e f ≡ Some s → is_overfull s ≡ true
     go None q h = none_some h
-    go (Some b) q h = overfull e b s (journal-full (machine_of rs pad) r b q) h
+    go (Some b) q h = overfull e b s (full_bytes rs w 0 kept e b q) h
 
 -- the choice is that of a stop alone
 same_event : (w : WorldState) (kept : Bool) (e : Event) → is_stop e ≡ false → event_at w 0 kept e ≡ event_at w 0 false e
@@ -98,7 +96,7 @@ module _ {D : Type 0} (told : D → Option Contents) (failures : D → ℕ) (sto
     subst (λ (o : Option AnEvent). IsOf told failures stops_alone new (happened w o)) (same_event w kept e plain)
         (record { kepts = kept_happened w ks (event_at w 0 kept e); alone = alone; journal = journal_after rs w 0 kept e; run = more w ks (event_at w 0 kept e) run; stands = stands }),
   )
-  played alone rs w ks e new s b is run plain f (HasNoRoom full stands) = absurd (let h : true ≡ false = sym (overfull-by rs w.pad e s (record_at w 0 e) full) ∙ f in cc)
+  played alone rs w ks e new s b is run plain f (HasNoRoom kept full d stands) = absurd (let h : true ≡ false = sym (overfull-at rs w kept e s full) ∙ f in cc)
 
   -- what an event came to that is shown, and no stop
   pub plays : (w : WorldState) (old new : World D) (e : Event) (s : Shown) (b : Bool) → b ≡ is_nothing s → is_stop e ≡ false → is_overfull s ≡ false → (at : IsOf told failures stops_alone old w)

@@ -16,7 +16,10 @@ use Rattle.ep_event.specs.declared.shown.Shown.TheVariants as shown
 use Rattle.ep_event.specs.declared.shown.Verb.TheVariants as verb
 use Rattle.ep_world.specs.Events.{of_client, view_of}
 use Rattle.ep_world.specs.Reading.{client_kept}
-use Rattle.ep_world.specs.Shows.{shows_head}
+use Rattle.ep_history.specs.declared.pad_bad.PadBad.{PadBad}
+use Rattle.ep_history.specs.declared.record.Record.{Record}
+use Rattle.ep_world.specs.Journal.{full_in, reads_as, reads_if}
+use Rattle.ep_world.specs.Shows.{pad_refuses, shows_head}
 use Rattle.ep_world.specs.Standing.{IsRun}
 use Rattle.ep_world.proofs.Leading.{kept}
 use Rattle.ep_make.specs.Draws.{name_of}
@@ -65,8 +68,13 @@ unfolding rev_of doc_of
 head_if true r h d e q = (ap rev_of q, ap (λ s. doc_of s d) q)
 head_if false r h d e q = absurd (let k : shown.Head r d ≡ shown.Gone verb.Head = q in cc)
 
-pub head_shown : (pad : PadState) (r : ℕ) (d : Doc) → shown.Head r d ≡ shows_head pad → (r ≡ head (newest pad)) × (d ≡ head_doc (newest pad))
-head_shown pad r d q = head_if pad.present r (head (newest pad)) d (head_doc (newest pad)) q
+-- a pad that shows its head isn't shut
+head_open : (r : ℕ) (d : Doc) (said : Shown) (o : Option PadBad) → shown.Head r d ≡ reads_if verb.Head said o → shown.Head r d ≡ said
+head_open r d said None q = q
+head_open r d said (Some b) q = absurd (let k : shown.Head r d ≡ pad_refuses verb.Head None b = q in cc)
+
+pub head_shown : (rs : List Record) (pad : PadState) (r : ℕ) (d : Doc) → shown.Head r d ≡ reads_as rs pad verb.Head (shows_head pad) → (r ≡ head (newest pad)) × (d ≡ head_doc (newest pad))
+head_shown rs pad r d q = head_if pad.present r (head (newest pad)) d (head_doc (newest pad)) (head_open r d (shows_head pad) (full_in rs pad None) q)
 
 -- ---- how many agree
 
@@ -79,10 +87,10 @@ seen_more w doc k n b count is sees_it c =
 
 -- ---- the lines
 
-pub five : (w : WorldState) (clients edits rev : ℕ) (doc : Doc) (count agree : ℕ) (text : List ℕ) → shown.Head rev doc ≡ shows_head w.pad → count ≡ length doc → agree ≡ seen_by w doc clients
+pub five : (rs : List Record) (w : WorldState) (clients edits rev : ℕ) (doc : Doc) (count agree : ℕ) (text : List ℕ) → shown.Head rev doc ≡ reads_as rs w.pad verb.Head (shows_head w.pad) → count ≡ length doc → agree ≡ seen_by w doc clients
     → text ≡ lines_of clients edits (rev + 1) count agree → text ≡ five_lines clients edits w
-five w clients edits rev doc count agree text is has agrees lines =
-    let h = head_shown w.pad rev doc is in
+five rs w clients edits rev doc count agree text is has agrees lines =
+    let h = head_shown rs w.pad rev doc is in
     lines
     ∙ ap (λ r. lines_of clients edits (r + 1) count agree) h.0
     ∙ ap (λ k. lines_of clients edits (head (newest w.pad) + 1) k agree) (has ∙ ap length h.1)

@@ -25,7 +25,7 @@ use Rattle.ep_script.specs.declared.line.Line.TheVariants as line
 use Rattle.ep_script.specs.declared.line.LineBad.{LineBad}
 use Rattle.ep_script.specs.declared.line.LineBad.TheVariants as line_bad
 use Rattle.ep_world.specs.Events.{event_at, is_client, of_client}
-use Rattle.ep_world.specs.Journal.{full_by, keeps_record, record_taken}
+use Rattle.ep_world.specs.Journal.{full_at, full_by, journal_full, keeps_record, record_taken}
 use Rattle.ep_world.specs.Reading.{ShowsClient, ShowsPad}
 use Rattle.ep_world.specs.Shows.{shows, shows_view, shows_view_marks}
 use Rattle.ep_world.specs.Standing.{Comes, IsPlayed, StandsFor, overfull_at}
@@ -34,8 +34,7 @@ use Rattle.ep_world.specs.declared.bad.WorldBad.{WorldBad}
 use Rattle.ep_world.specs.declared.bad.WorldBad.TheVariants as world_bad
 use Rattle.ep_world.specs.declared.world.World.{World}
 use Rattle.ep_world.proofs.Leading.{more}
-use Rattle.ep_run.specs.Play.{Scene, Happens, Shows, ShowsRead, ShowsSeen, after, keeps_left, leaves_gate, line_read, line_seen, line_stops, played, stop_at, stops, unless, written}
-use Rattle.ep_run.specs.Play.Happens.{IsEvent, HasNoRoom}
+use Rattle.ep_run.specs.Play.{Scene, Becomes, Happens, Shows, ShowsRead, ShowsSeen, after, keeps_left, leaves_gate, line_read, line_seen, line_stops, played, stop_at, stops, unless, written}
 use Rattle.ep_run.specs.Played.{IsStage, Plays, PlaysLine, Puts, Steps}
 use Rattle.ep_run.specs.Stops.{stop_of_line, stop_of_world}
 use Rattle.ep_run.specs.declared.reason.Reason.TheVariants.{Unknown}
@@ -79,10 +78,8 @@ keeps-seen k s n calls image =
     (gate-seen (gate_behind s.journal) image)
 
 event-seen : (k : ℕ) (s next : Scene) (e : Told) (o : Option Shown) → Shows k s (line.Event e) o next → ShowsSeen k s (seen (line.Event e)) o next
-event-seen k s next (event.Stop (Some at)) o (IsEvent kept a r d b) =
-    let e = d ∙ keeps-seen k s at.name at.calls at.image in
-    (a ∙ ap (λ x. Some (shows s.world k x (stop_at at.name at.calls))) e, b ∙ ap (λ x. played k s x (stop_at at.name at.calls)) e)
-event-seen k s next (event.Stop (Some at)) o (HasNoRoom a b c) = absurd (let z : is_some o ≡ true = b in let y : is_some o ≡ false = ap is_some a in let w : true ≡ false = sym z ∙ y in cc)
+event-seen k s next (event.Stop (Some at)) o h =
+    subst (λ b. Becomes b k s (stop_at at.name at.calls) o next (full_at s.journal s.world k b (stop_at at.name at.calls))) (h.1 ∙ keeps-seen k s at.name at.calls at.image) h.2
 event-seen k s next (event.Stop None) o h = h
 event-seen k s next (event.Create t) o h = h
 event-seen k s next (event.SetText t) o h = h
@@ -147,19 +144,19 @@ module _ {D : Type 0} (told : D → Option Contents) (failures : D → ℕ) (sto
     happens-so x (EventPlayed kept a r d b) =
         let next = played k s kept e in (
           next,
-          IsEvent kept (ap Some a) r (d refl) refl,
+          (kept, d refl, subst (Becomes kept k s e (Some x) next) (sym r) (ap Some a, refl)),
           record {
             run = more s.world s.kepts (event_at s.world k kept e) is.run;
             world = subst (λ c. StandsFor told failures stops_alone true next.journal c next.world next.kepts) (sym at) b;
             pool = pool;
           },
         )
-    happens-so x (NoRoomPlayed a b) =
-        let next = after s (overfull_at e) s.journal in (
+    happens-so x (NoRoomPlayed kept a d b) =
+        let next = after s (overfull_at s.journal s.world k kept e) (journal_full s.journal s.world k kept e) in (
           next,
-          HasNoRoom (sym a) refl refl,
+          (kept, d refl, subst (Becomes kept k s e (Some x) next) (sym a) (refl, refl)),
           record {
-            run = more s.world s.kepts (overfull_at e) is.run;
+            run = more s.world s.kepts (overfull_at s.journal s.world k kept e) is.run;
             world = subst (λ c. StandsFor told failures stops_alone true next.journal c next.world next.kepts) (sym at) b;
             pool = pool;
           },

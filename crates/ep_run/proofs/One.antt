@@ -1,6 +1,6 @@
 -- A script has one transcript.
 use Rattle.std.proofs.Common.{◌≡◌, ℕ, ◌+◌, Bool, true, false, List, [], ◌∷◌, ◌++◌, Option, Some, None, refl, sym, ap, ◌∙◌, subst}
-use Rattle.std.specs.Prelude.{Result, Ok, Err, MatchOption, IsSome, is_some}
+use Rattle.std.specs.Prelude.{Result, Ok, Err, MatchOption}
 use Rattle.ep_units.specs.Text.{Text}
 use Rattle.ep_csread.specs.Reading.{reading}
 use Rattle.ep_event.specs.declared.event.Event.{Event as Told}
@@ -10,49 +10,42 @@ use Rattle.ep_script.specs.Seen.{Seen, whole, stopped}
 use Rattle.ep_script.specs.declared.line.Line.{Line}
 use Rattle.ep_script.specs.declared.line.Line.TheVariants as line
 use Rattle.ep_world.specs.Journal.{Decides, full_at}
-use Rattle.ep_world.specs.Shows.{shows}
-use Rattle.ep_run.specs.Play.{Scene, Happens, IsTranscript, Shows, ShowsRead, Transcript, error_line, opening, played, reads_of, stops, written}
-use Rattle.ep_run.specs.Play.Happens.{IsEvent, HasNoRoom}
+use Rattle.ep_run.specs.Play.{Scene, Becomes, Happens, IsTranscript, Shows, ShowsRead, Transcript, error_line, keeps_left, opening, reads_of, stop_at, stops, written}
 use Rattle.ep_run.specs.declared.reason.Reason.{Reason}
 
 -- ---- events
 
+abbrev By : ℕ → Scene → Told → Bool → Option Shown → Scene → Type 0
+By k s e kept o n = Becomes kept k s e o n (full_at s.journal s.world k kept e)
+
 -- what an event shows, and what stands behind it, is the same for two choices that are decided alike
-abbrev IsSame : ℕ → Scene → Told → Bool → Bool → Type 0
-IsSame k s e kept also = (shows s.world k kept e ≡ shows s.world k also e) × (played k s kept e ≡ played k s also e)
-
-same-event : (k : ℕ) (s : Scene) (e : Told) (kept also : Bool) → Decides s.journal s.world k e kept → Decides s.journal s.world k e also → IsSame k s e kept also
-same-event k s (event.Stop (Some at)) kept also d f =
-    let e = d ∙ sym f in (ap (λ b. shows s.world k b (event.Stop (Some at))) e, ap (λ b. played k s b (event.Stop (Some at))) e)
-same-event k s (event.Stop None) kept also d f = (refl, refl)
-same-event k s (event.Create t) kept also d f = (refl, refl)
-same-event k s (event.SetText t) kept also d f = (refl, refl)
-same-event k s event.Delete kept also d f = (refl, refl)
-same-event k s (event.Login n) kept also d f = (refl, refl)
-same-event k s (event.Guest n r) kept also d f = (refl, refl)
-same-event k s (event.Edit n e) kept also d f = (refl, refl)
-same-event k s (event.Submit n) kept also d f = (refl, refl)
-same-event k s (event.Inject n b c) kept also d f = (refl, refl)
-same-event k s (event.Take n) kept also d f = (refl, refl)
-same-event k s (event.Late n) kept also d f = (refl, refl)
-same-event k s (event.Push n) kept also d f = (refl, refl)
-same-event k s (event.Hear n) kept also d f = (refl, refl)
-same-event k s (event.Lose n) kept also d f = (refl, refl)
-same-event k s (event.Resume n) kept also d f = (refl, refl)
-
--- there is room for a record, or there isn't
-no-both : {A : Type 0} (o full : Option Shown) → IsSome o → o ≡ full → full ≡ None → A
-no-both o full some e none = absurd (let z : is_some o ≡ true = some in let y : is_some o ≡ false = ap is_some (e ∙ none) in let w : true ≡ false = sym z ∙ y in cc)
+same-choice : (k : ℕ) (s : Scene) (e : Told) (kept also : Bool) → Decides s.journal s.world k e kept → Decides s.journal s.world k e also → (o : Option Shown) (n : Scene) → By k s e also o n → By k s e kept o n
+same-choice k s (event.Stop (Some at)) kept also d f o n h = subst (λ b. By k s (event.Stop (Some at)) b o n) (f ∙ sym d) h
+same-choice k s (event.Stop None) kept also d f o n h = h
+same-choice k s (event.Create t) kept also d f o n h = h
+same-choice k s (event.SetText t) kept also d f o n h = h
+same-choice k s event.Delete kept also d f o n h = h
+same-choice k s (event.Login m) kept also d f o n h = h
+same-choice k s (event.Guest m r) kept also d f o n h = h
+same-choice k s (event.Edit m e) kept also d f o n h = h
+same-choice k s (event.Submit m) kept also d f o n h = h
+same-choice k s (event.Inject m b c) kept also d f o n h = h
+same-choice k s (event.Take m) kept also d f o n h = h
+same-choice k s (event.Late m) kept also d f o n h = h
+same-choice k s (event.Push m) kept also d f o n h = h
+same-choice k s (event.Hear m) kept also d f o n h = h
+same-choice k s (event.Lose m) kept also d f o n h = h
+same-choice k s (event.Resume m) kept also d f o n h = h
 
 abbrev Both : Option Shown → Option Shown → Scene → Scene → Type 0
 Both o p n m = (o ≡ p) × (n ≡ m)
 
+one-by : (k : ℕ) (s : Scene) (e : Told) (kept : Bool) (o p : Option Shown) (n m : Scene) (f : Option Shown) → Becomes kept k s e o n f → Becomes kept k s e p m f → Both o p n m
+one-by k s e kept o p n m None a b = (a.0 ∙ sym b.0, a.1 ∙ sym b.1)
+one-by k s e kept o p n m (Some full) a b = (a.0 ∙ sym b.0, a.1 ∙ sym b.1)
+
 one-event : (k : ℕ) (s : Scene) (e : Told) (o p : Option Shown) (n m : Scene) → Happens k s e o n → Happens k s e p m → Both o p n m
-one-event k s e o p n m (IsEvent kept a r d x) (IsEvent also b q f y) =
-    let g = same-event k s e kept also d f in (a ∙ ap Some g.0 ∙ sym b, x ∙ g.1 ∙ sym y)
-one-event k s e o p n m (IsEvent kept a r d x) (HasNoRoom b q y) = no-both p (full_at s.journal s.world k e) q b r
-one-event k s e o p n m (HasNoRoom a r x) (IsEvent also b q f y) = no-both o (full_at s.journal s.world k e) r a q
-one-event k s e o p n m (HasNoRoom a r x) (HasNoRoom b q y) = (a ∙ sym b, x ∙ sym y)
+one-event k s e o p n m a b = one-by k s e a.0 o p n m (full_at s.journal s.world k a.0 e) a.2 (same-choice k s e a.0 b.0 a.1 b.1 p m b.2)
 
 -- ---- lines
 
@@ -69,7 +62,9 @@ one-line k s (line.ViewMarks name) o p n m a b = (a.0 ∙ sym b.0, a.1 ∙ sym b
 
 one-read : (k : ℕ) (s : Scene) (r : Result Seen Reason) (o p : Option Shown) (n m : Scene) → ShowsRead k s r o n → ShowsRead k s r p m → Both o p n m
 one-read k s (Ok (whole l)) o p n m a b = one-line k s l o p n m a b
-one-read k s (Ok (stopped name calls left)) o p n m a b = (a.0 ∙ sym b.0, a.1 ∙ sym b.1)
+one-read k s (Ok (stopped name calls left)) o p n m a b =
+    let kept = keeps_left s k name calls left in
+    one-by k s (stop_at name calls) kept o p n m (full_at s.journal s.world k kept (stop_at name calls)) a b
 one-read k s (Err reason) o p n m a b = absurd a
 
 -- ---- scripts

@@ -13,11 +13,11 @@ use Rattle.ep_history.specs.declared.record.Record.{Record}
 use Rattle.ep_script.specs.Seen.{Seen, whole, stopped}
 use Rattle.ep_script.specs.declared.line.Line.{Line}
 use Rattle.ep_script.specs.declared.line.Line.TheVariants as line
-use Rattle.ep_world.specs.Journal.{Decides, full_at, keeps_record}
+use Rattle.ep_event.specs.declared.shown.Verb.TheVariants as verb
+use Rattle.ep_world.specs.Journal.{Decides, full_at, journal_full, keeps_record, reads_as}
 use Rattle.ep_world.specs.Standing.{overfull_at}
 use Rattle.ep_world.specs.Shows.{shows, shows_head, shows_marks, shows_text, shows_view, shows_view_marks}
-use Rattle.ep_run.specs.Play.{Scene, Happens, Shows, ShowsRead, ShowsSeen, Transcript, after, error_line, keeps_left, line_seen, line_stops, played, stop_at, stops, with_pair, written}
-use Rattle.ep_run.specs.Play.Happens.{IsEvent, HasNoRoom}
+use Rattle.ep_run.specs.Play.{Scene, Becomes, Happens, Shows, ShowsRead, ShowsSeen, Transcript, after, error_line, keeps_left, line_seen, line_stops, played, stop_at, stops, with_pair, written}
 use Rattle.ep_run.specs.declared.reason.Reason.{Reason}
 
 match-none : {A : Type 0} (o : Option A) (P : Type 0) (Q : A → Type 0) → o ≡ None → P → MatchOption o P Q
@@ -69,13 +69,16 @@ some-decided rs w k (event.Hear n) = (false, tt)
 some-decided rs w k (event.Lose n) = (false, tt)
 some-decided rs w k (event.Resume n) = (false, tt)
 
--- and there is room for what is recorded, or there isn't
+-- and there is room, or there isn't
+some-by : (k : ℕ) (s : Scene) (e : Told) (kept : Bool) (f : Option Shown) → (o : Option Shown) × (next : Scene) × Becomes kept k s e o next f
+some-by k s e kept None = (Some (shows s.world k kept e), played k s kept e, (refl, refl))
+some-by k s e kept (Some x) = (Some x, after s (overfull_at s.journal s.world k kept e) (journal_full s.journal s.world k kept e), (refl, refl))
+
 some-event : (k : ℕ) (s : Scene) (e : Told) → (o : Option Shown) × (next : Scene) × Happens k s e o next
-some-event k s e = go (full_at s.journal s.world k e) refl
-  where
-    go : (f : Option Shown) → full_at s.journal s.world k e ≡ f → (o : Option Shown) × (next : Scene) × Happens k s e o next
-    go None h = let d = some-decided s.journal s.world k e in (Some (shows s.world k d.0 e), played k s d.0 e, IsEvent d.0 refl h d.1 refl)
-    go (Some x) h = (Some x, after s (overfull_at e) s.journal, HasNoRoom (sym h) refl refl)
+some-event k s e =
+    let d = some-decided s.journal s.world k e in
+    let x = some-by k s e d.0 (full_at s.journal s.world k d.0 e) in
+    (x.0, x.1, (d.0, d.1, x.2))
 
 some-shown : (k : ℕ) (s : Scene) (l : Line) → SomeShown k s l
 some-shown k s line.Blank = (None, s, (refl, refl))
@@ -83,9 +86,9 @@ some-shown k s (line.Event e) = some-event k s e
 some-shown k s (line.Inject n base text) = some-event k s (event.Inject n base (reading s.pool text))
 some-shown k s (line.Attr key value) = (Some (shown.Attr (number_of s.pool (key, value))), with_pair s (key, value), (refl, refl))
 some-shown k s (line.Show n) = (shows_view s.world n, s, (refl, refl))
-some-shown k s line.Head = (Some (shows_head s.world.pad), s, (refl, refl))
-some-shown k s (line.Text rev) = (Some (shows_text s.world.pad rev), s, (refl, refl))
-some-shown k s line.Marks = (Some (shows_marks s.world.pad), s, (refl, refl))
+some-shown k s line.Head = (Some (reads_as s.journal s.world.pad verb.Head (shows_head s.world.pad)), s, (refl, refl))
+some-shown k s (line.Text rev) = (Some (reads_as s.journal s.world.pad verb.Text (shows_text s.world.pad rev)), s, (refl, refl))
+some-shown k s line.Marks = (Some (reads_as s.journal s.world.pad verb.Marks (shows_marks s.world.pad)), s, (refl, refl))
 some-shown k s (line.ViewMarks n) = (shows_view_marks s.world n, s, (refl, refl))
 
 -- so of a line as it is seen
@@ -93,7 +96,7 @@ some-seen : (k : ℕ) (s : Scene) (l : Seen) → (o : Option Shown) × (next : S
 some-seen k s (whole l) = some-shown k s l
 some-seen k s (stopped n calls left) =
     let kept = keeps_left s k n calls left in
-    (Some (shows s.world k kept (stop_at n calls)), played k s kept (stop_at n calls), (refl, refl))
+    some-by k s (stop_at n calls) kept (full_at s.journal s.world k kept (stop_at n calls))
 
 abbrev pub SomeTranscript : ℕ → Scene → List (Result Seen Reason) → Type 0
 SomeTranscript k s reads = (out : List ℕ) × (status : ℕ) × (end : Scene) × Transcript k s reads out status end

@@ -1,5 +1,5 @@
 -- What a script may write, and the status that it ends with.
-use Rattle.std.specs.Prelude.{◌≡◌, ℕ, ◌+◌, Bool, true, false, ◌==◌, ◌&&◌, ◌||◌, nat_le, is_none, if◌then◌else◌, List, [], ◌∷◌, ◌++◌, codes, Option, Some, None, IsSome, MatchOption, Result, Ok, Err}
+use Rattle.std.specs.Prelude.{◌≡◌, ℕ, ◌+◌, Bool, true, false, ◌==◌, ◌&&◌, ◌||◌, nat_le, is_none, if◌then◌else◌, List, [], ◌∷◌, ◌++◌, codes, Option, Some, None, MatchOption, Result, Ok, Err}
 use Rattle.std.specs.Fmt.{decimal}
 use Rattle.ep_units.specs.Text.{Text}
 use Rattle.ep_attr.specs.AttrMap.{Pair}
@@ -17,6 +17,7 @@ use Rattle.ep_event.specs.declared.event.Event.{Event as Told}
 use Rattle.ep_event.specs.declared.event.Event.TheVariants as event
 use Rattle.ep_event.specs.declared.shown.Shown.{Shown}
 use Rattle.ep_event.specs.declared.shown.Shown.TheVariants as shown
+use Rattle.ep_event.specs.declared.shown.Verb.TheVariants as verb
 use Rattle.ep_script.specs.Lines.{Row, rows_of, said}
 use Rattle.ep_script.specs.Script.{is_long, width}
 use Rattle.ep_script.specs.Line.{line_of}
@@ -30,7 +31,7 @@ use Rattle.ep_script.specs.declared.line.LineBad.TheVariants as bad
 use Rattle.ep_print.specs.Printed.{printed}
 use Rattle.ep_world.specs.Events.{event_at, happened, kept_happened, is_client, is_guest, is_known}
 use Rattle.ep_world.specs.Shows.{shows, shows_head, shows_marks, shows_text, shows_view, shows_view_marks}
-use Rattle.ep_world.specs.Journal.{Decides, begun, full_at, full_by, journal_after, record_taken}
+use Rattle.ep_world.specs.Journal.{Decides, begun, full_at, full_by, journal_after, journal_full, reads_as, record_taken}
 use Rattle.ep_world.specs.Standing.{overfull_at}
 use Rattle.ep_run.specs.declared.reason.Reason.{Reason}
 use Rattle.ep_run.specs.declared.reason.Reason.TheVariants.{Utf8, Syntax, Long, Unknown}
@@ -119,12 +120,16 @@ stops w (Err reason) = Some reason
 
 -- ---- what a line shows
 
--- Line k is an event, at the moment of k milliseconds: it happens, and is shown. Or the journal has no room for its record,
--- and says so. Of a crash within a take the image that is asked for decides whether the record is kept.
-pub data Happens (k : ℕ) (s : Scene) (e : Told) (o : Option Shown) (next : Scene) : Type 0 where
-  IsEvent : (kept : Bool) → o ≡ Some (shows s.world k kept e) → full_at s.journal s.world k e ≡ None → Decides s.journal s.world k e kept → next ≡ played k s kept e
-      → Happens k s e o next
-  HasNoRoom : o ≡ full_at s.journal s.world k e → IsSome o → next ≡ after s (overfull_at e) s.journal → Happens k s e o next
+-- what is shown of the event of line k, and what stands behind it: it happens; or there is no room for it, and that is shown
+abbrev pub Becomes : Bool → ℕ → Scene → Told → Option Shown → Scene → Option Shown → Type 0
+Becomes kept k s e o next None = (o ≡ Some (shows s.world k kept e)) × (next ≡ played k s kept e)
+Becomes kept k s e o next (Some full) =
+    (o ≡ Some full) × (next ≡ after s (overfull_at s.journal s.world k kept e) (journal_full s.journal s.world k kept e))
+
+-- Line k is an event, at the moment of k milliseconds: it happens, and is shown. Or the journal has no room for its record, or
+-- for an opening, and says so. Of a crash within a take the image that is asked for decides whether the record is kept.
+abbrev pub Happens : ℕ → Scene → Told → Option Shown → Scene → Type 0
+Happens k s e o next = (kept : Bool) × Decides s.journal s.world k e kept × Becomes kept k s e o next (full_at s.journal s.world k kept e)
 
 -- the byte 01, written at the gate and not synced, is in what the crash leaves
 abbrev pub leaves_gate : ℕ → Left → Bool
@@ -146,9 +151,9 @@ Shows k s (line.Event e) o next = Happens k s e o next
 Shows k s (line.Inject n base text) o next = Happens k s (event.Inject n base (reading s.pool text)) o next
 Shows k s (line.Attr key value) o next = (o ≡ Some (shown.Attr (number_of s.pool (key, value)))) × (next ≡ with_pair s (key, value))
 Shows k s (line.Show n) o next = (o ≡ shows_view s.world n) × (next ≡ s)
-Shows k s line.Head o next = (o ≡ Some (shows_head s.world.pad)) × (next ≡ s)
-Shows k s (line.Text rev) o next = (o ≡ Some (shows_text s.world.pad rev)) × (next ≡ s)
-Shows k s line.Marks o next = (o ≡ Some (shows_marks s.world.pad)) × (next ≡ s)
+Shows k s line.Head o next = (o ≡ Some (reads_as s.journal s.world.pad verb.Head (shows_head s.world.pad))) × (next ≡ s)
+Shows k s (line.Text rev) o next = (o ≡ Some (reads_as s.journal s.world.pad verb.Text (shows_text s.world.pad rev))) × (next ≡ s)
+Shows k s line.Marks o next = (o ≡ Some (reads_as s.journal s.world.pad verb.Marks (shows_marks s.world.pad))) × (next ≡ s)
 Shows k s (line.ViewMarks n) o next = (o ≡ shows_view_marks s.world n) × (next ≡ s)
 
 -- so does a line as it is seen
@@ -156,7 +161,7 @@ abbrev pub ShowsSeen : ℕ → Scene → Seen → Option Shown → Scene → Typ
 ShowsSeen k s (whole l) o next = Shows k s l o next
 ShowsSeen k s (stopped n calls left) o next =
     let kept = keeps_left s k n calls left in
-    (o ≡ Some (shows s.world k kept (stop_at n calls))) × (next ≡ played k s kept (stop_at n calls))
+    Becomes kept k s (stop_at n calls) o next (full_at s.journal s.world k kept (stop_at n calls))
 
 abbrev pub ShowsRead : ℕ → Scene → Result Seen Reason → Option Shown → Scene → Type 0
 ShowsRead k s (Ok seen) o next = ShowsSeen k s seen o next

@@ -37,7 +37,7 @@ const LIMITS: Limits = Limits {
 pub enum Stop {
     /// It can't be.
     At(Reason),
-    /// Memory is wanting; or the disk failed, or has no room for the record of an opening. Nothing more can be played.
+    /// Memory is wanting; or the disk failed, or a crash within a take left no room for an opening. Nothing more can be played.
     Failed,
 }
 

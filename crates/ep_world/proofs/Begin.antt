@@ -1,5 +1,5 @@
 -- A world begins on an empty disk.
-use Rattle.std.proofs.Common.{◌≡◌, ℕ, Bool, true, false, [], ◌∷◌, ◌++◌, Option, Some, ap, ◌∙◌}
+use Rattle.std.proofs.Common.{◌≡◌, ℕ, Bool, true, false, [], ◌∷◌, ◌++◌, Option, Some, inl, ap, ◌∙◌}
 use Rattle.ep_units.specs.Text.{Text}
 use Rattle.ep_outside.specs.Disk.{Contents}
 use Rattle.ep_outside.specs.declared.limits.Limits.{Limits}
@@ -16,7 +16,7 @@ use Rattle.ep_pad.specs.Standing.{Stands, opening}
 use Rattle.ep_pad_file.specs.Standing.{size}
 use Rattle.ep_world.specs.declared.world.World.{World}
 use Rattle.ep_world.specs.Actors.{found}
-use Rattle.ep_world.specs.Failing.{failed}
+use Rattle.ep_world.specs.Failing.{failed_opening}
 use Rattle.ep_world.specs.Journal.{begun, full_by}
 use Rattle.ep_world.specs.Standing.{IsUnbegun, StandsFor}
 use Rattle.ep_world.proofs.Counting.{sleeps-full}
@@ -25,7 +25,7 @@ module _ {D : Type 0} (told_by : D → Option Contents) (failures : D → ℕ) (
   pub begins : (world : World D) (limits : Limits) (id : Text) (st : MachineState) → IsFirst st → st.records ≡ [] ++ opening (told limits []) ∷ []
       → Stands told_by failures world.machine st → world.machine.limits ≡ limits → world.id ≡ id → world.actors ≡ [] → stops_alone world.machine.disk ≡ alone → StandsFor told_by failures stops_alone alone begun world (start limits id) nobodies
   begins world limits id st first records stands held same nobody mark = record {
-    machine = record {
+    machine = inl (record {
       state = st;
       stands = stands;
       kept = first-kept st first;
@@ -33,14 +33,14 @@ module _ {D : Type 0} (told_by : D → Option Contents) (failures : D → ℕ) (
       records = records;
       pad = first.told ∙ ap (told st.pad.limits) records ∙ ap (λ l. told l ([] ++ opening (told limits []) ∷ [])) (stands.limits ∙ held);
       mark = mark;
-    };
+    });
     id = same;
     actors = λ n. ap (λ s. found s n) nobody;
   }
 
 -- why none begins
 pub unbegun : {D : Type 0} (told_by : D → Option Contents) (failures : D → ℕ) (disk back : D) (limits : Limits) (id : Text) (why : PadBad) → IsRefused told_by failures limits disk back why
-    → IsUnbegun told_by failures disk limits id (failed why)
+    → IsUnbegun told_by failures disk limits id (failed_opening why)
 unbegun told_by failures disk back limits id (bad.Store n) r = (back, r.cause)
 unbegun told_by failures disk back limits id (bad.JournalFull n) r = λ h.
     let x = r.keeps [] [] h tt in

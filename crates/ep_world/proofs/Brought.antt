@@ -1,6 +1,6 @@
 -- What taking a message comes to.
 use Rattle.std.proofs.Common.{◌≡◌, ℕ, zero, suc, ◌==◌, Bool, true, false, List, [], ◌∷◌, ◌++◌, Option, Some, None, Result, Ok, Err, inl, inr, if◌then◌else◌, refl, sym, ap, ◌∙◌, subst}
-use Rattle.std.specs.Prelude.{MatchResult, nat_lt}
+use Rattle.std.specs.Prelude.{◌⊎◌, MatchResult, nat_lt, not}
 use Rattle.ep_units.specs.declared.session.Session.{Session}
 use Rattle.ep_outside.specs.Disk.{Contents}
 use Rattle.ep_cs.specs.Change.{Change}
@@ -23,7 +23,7 @@ use Rattle.ep_history.specs.declared.pad_bad.PadBad.TheVariants as bad
 use Rattle.ep_history.specs.declared.record.Record.{Record}
 use Rattle.ep_history.specs.declared.seat.Seat.{Seat}
 use Rattle.ep_history.specs.declared.seat.Why.{Why}
-use Rattle.ep_history.specs.declared.seat.Why.TheVariants.{Left}
+use Rattle.ep_history.specs.declared.seat.Why.TheVariants.{Left, Reopened}
 use Rattle.ep_history.proofs.Lists.{none_some, some_same}
 use Rattle.ep_schedule.specs.World.{Message, pad_reason, reason}
 use Rattle.ep_schedule.specs.World.Reason.{Refused, Unread}
@@ -38,9 +38,10 @@ use Rattle.ep_world.specs.Conns.{change_of, sent_of, why_unread}
 use Rattle.ep_world.specs.declared.taking.Took.{Took}
 use Rattle.ep_world.specs.declared.taking.Took.TheVariants as took
 use Rattle.ep_world.specs.Failing.{IsFailure, failed}
-use Rattle.ep_world.specs.Journal.{behind, full_by, record_in}
+use Rattle.ep_world.specs.Journal.{behind, full_by, full_in, is_shut, record_in, unopened}
 use Rattle.ep_world.specs.Standing.{IsAnswered, IsAt, answer_of, pad_after}
-use Rattle.ep_world.specs.Taking.{Brings, IsFull, not_made}
+use Rattle.ep_world.proofs.Shut.{open-full, open-shut, opens-free, shut-full, shut-seat, shut-shut}
+use Rattle.ep_world.specs.Taking.{Brings, IsFull, IsShut, not_made}
 
 -- ---- refusals
 
@@ -151,7 +152,6 @@ dead-left pad s b e = go (s.epoch == pad.epoch) refl
 
 pub failed-fails : (b : PadBad) → IsFailure (failed b)
 failed-fails (bad.Store n) = tt
-failed-fails (bad.JournalFull n) = tt
 failed-fails b = tt
 
 module _ {D : Type 0} (told_by : D → Option Contents) (failures : D → ℕ) (stops_alone : D → Bool) (alone : Bool) (rs : List Record) where
@@ -168,35 +168,104 @@ module _ {D : Type 0} (told_by : D → Option Contents) (failures : D → ℕ) (
       let d = unless-refuses-answer (dead_fault pad s) Done (leave pad s) (bad.Dead why) x.0 in
       subst (IsAt told_by failures stops_alone alone rs new) (sym (dead-left pad s (bad.Dead why) d)) x.1
 
+  -- an entry that is answered or refused by the rules finds the pad open
+  pub is-free : (old : Held D) (pad : PadState) (o : Option Record) → IsAt told_by failures stops_alone alone rs old pad → full_in rs pad o ≡ None → true ≡ not (is_shut rs pad)
+  is-free old pad o a f = sym (ap not (open-shut told_by failures stops_alone alone rs old pad (opens-free told_by failures stops_alone alone rs old pad o a f)))
+
+  -- a leave is refused for the journal only where the pad is shut, and then nobody is there
+  pub leaves-shut : (old new : Held D) (pad : PadState) (s : Session) (n : ℕ) → IsAt told_by failures stops_alone alone rs old pad
+      → IsAnswered told_by failures stops_alone alone rs old pad (Leave s) (Err (bad.JournalFull n)) new
+      → (false ≡ not (is_shut rs pad)) × IsAt told_by failures stops_alone alone rs new (leave pad s)
+  leaves-shut old new pad s n (inl a) x = none_some (sym (nothing (dead_fault pad s)) ∙ sym (open-full told_by failures stops_alone alone rs old pad (record_in (outcome pad (Leave s))) a) ∙ x.1)
+    where
+      nothing : (f : Option PadBad) → full_by rs pad (record_in (unless f (Answers Done (leave pad s)))) ≡ None
+      nothing None = refl
+      nothing (Some b) = refl
+  leaves-shut old new pad s n (inr a) x = (
+    sym (ap not (shut-shut told_by failures stops_alone alone rs old pad a)),
+    subst (IsAt told_by failures stops_alone alone rs new)
+        (sym (dead-left pad s (bad.Dead (Reopened pad.epoch)) (ap (λ o. dead_if (end_of pad.epoch o)) (shut-seat told_by failures stops_alone alone rs old pad s a)))) x.0,
+  )
+
   -- an edit is committed
   pub made : (old new : Held D) (pad : PadState) (s : Session) (msg : Message) (now : ℕ) (a : Answer) → is_edit msg.change.edit ≡ true
       → IsAnswered told_by failures stops_alone alone rs old pad (Accept s msg.base msg.change now) (Ok a) new
       → (reason pad s msg ≡ None) × (a ≡ CommitAnswer (commit pad (at_head pad msg.base msg.change.edit)))
       × IsAt told_by failures stops_alone alone (rs ++ accept_record pad s now msg.base msg.change ∷ []) new (committed pad s now msg.base msg.change)
-      × (full_by rs pad (Some (accept_record pad s now msg.base msg.change)) ≡ None)
+      × (full_in rs pad (Some (accept_record pad s now msg.base msg.change)) ≡ None)
   made old new pad s msg now a i x =
       let u = unless-answers (refusal pad s msg.base msg.change) _ a x.0 in (
         reason-of pad s msg None i u.0,
         sym (some_same (sym (ap answer_of u.1) ∙ x.0)),
         subst (λ o. IsAt told_by failures stops_alone alone (behind rs (record_in o)) new (pad_after pad o)) u.1 x.1,
-        subst (λ o. full_by rs pad (record_in o) ≡ None) u.1 x.2,
+        subst (λ o. full_in rs pad (record_in o) ≡ None) u.1 x.2,
       )
 
   abbrev pub brought : PadState → Session → Message → ℕ → Held D → Result Took WorldBad → Type 0
   brought pad s msg now new r = MatchResult r (Brings told_by failures stops_alone alone rs pad s msg now new) IsFailure
 
   refused : (old new : Held D) (pad : PadState) (s : Session) (msg : Message) (now : ℕ) (b : PadBad) → is_edit msg.change.edit ≡ true
-      → (outcome pad (Accept s msg.base msg.change now) ≡ Refuses b) × IsAt told_by failures stops_alone alone rs new pad
+      → (outcome pad (Accept s msg.base msg.change now) ≡ Refuses b) × IsAt told_by failures stops_alone alone rs new pad × (full_in rs pad None ≡ None)
       → Brings told_by failures stops_alone alone rs pad s msg now new (took.Refused (why.Pad b))
-  refused old new pad s msg now b i x = (Refused b, reason-of pad s msg (Some b) i (unless-refuses (refusal pad s msg.base msg.change) _ _ _ b x.0), refl, x.1)
+  refused old new pad s msg now b i x = (
+    Refused b,
+    reason-of pad s msg (Some b) i (unless-refuses (refusal pad s msg.base msg.change) _ _ _ b x.0),
+    refl,
+    x.1,
+    ap (λ t. if t then full_in rs pad None else None) i ∙ x.2,
+  )
 
   no-room : (old new : Held D) (pad : PadState) (s : Session) (msg : Message) (now : ℕ) (n : ℕ) → is_edit msg.change.edit ≡ true
-      → IsAnswered told_by failures stops_alone alone rs old pad (Accept s msg.base msg.change now) (Err (bad.JournalFull n)) new → IsFull told_by failures stops_alone alone rs pad s msg now new n pad
-  no-room old new pad s msg now n i (a, inl h) = absurd (never-full pad s msg.base msg.change n (unless-refuses (refusal pad s msg.base msg.change) _ _ _ (bad.JournalFull n) h))
-  no-room old new pad s msg now n i (a, inr x) =
-      let f = unless-records (refusal pad s msg.base msg.change) _ x.0 x.1 x.2 x.3 in
-      let o : Outcome = Records (accept_record pad s now msg.base msg.change) (CommitAnswer (commit pad (at_head pad msg.base msg.change.edit))) (committed pad s now msg.base msg.change) in
-      (reason-of pad s msg None i f, a, ap (λ y. full_by rs pad (record_in (unless y o))) (sym f) ∙ ap (λ y. full_by rs pad (record_in y)) x.3 ∙ x.4)
+      → IsAnswered told_by failures stops_alone alone rs old pad (Accept s msg.base msg.change now) (Err (bad.JournalFull n)) new
+      → IsFull told_by failures stops_alone alone rs pad s msg now new n pad ⊎ IsShut told_by failures stops_alone alone rs pad s msg new n
+  no-room old new pad s msg now n i (inl a, x) =
+      inl (go (refusal pad s msg.base msg.change) refl (sym (open-full told_by failures stops_alone alone rs new pad (record_in (outcome pad (Accept s msg.base msg.change now))) a) ∙ x))
+    where
+      o : Outcome
+      o = Records (accept_record pad s now msg.base msg.change) (CommitAnswer (commit pad (at_head pad msg.base msg.change.edit))) (committed pad s now msg.base msg.change)
+
+      go : (f : Option PadBad) → refusal pad s msg.base msg.change ≡ f → full_by rs pad (record_in (unless (refusal pad s msg.base msg.change) o)) ≡ Some (bad.JournalFull n)
+          → IsFull told_by failures stops_alone alone rs pad s msg now new n pad
+      go (Some b) h e = none_some (sym (ap (λ y. full_by rs pad (record_in (unless y o))) h) ∙ e)
+      go None h e = (
+        reason-of pad s msg None i h,
+        inl a,
+        open-shut told_by failures stops_alone alone rs new pad a,
+        sym (ap (λ y. full_by rs pad (record_in (unless y o))) h) ∙ e,
+      )
+  no-room old new pad s msg now n i (inr a, x) =
+      let shut = shut-shut told_by failures stops_alone alone rs new pad a in
+      let o = record_in (outcome pad (Accept s msg.base msg.change now)) in
+      inr (
+        i,
+        shut-seat told_by failures stops_alone alone rs new pad s a,
+        inr a,
+        shut,
+        sym (ap (λ b. if b then unopened rs pad else full_by rs pad o) shut) ∙ x,
+      )
+
+  -- where the machine is then
+  pub room-at : (pad : PadState) (s : Session) (msg : Message) (now : ℕ) (new : Held D) (k : ℕ) → IsFull told_by failures stops_alone alone rs pad s msg now new k pad ⊎ IsShut told_by failures stops_alone alone rs pad s msg new k
+      → IsAt told_by failures stops_alone alone rs new pad
+  room-at pad s msg now new k (inl f) = f.1
+  room-at pad s msg now new k (inr f) = f.2
+
+  -- its session is left
+  pub room-settles : (pad : PadState) (s : Session) (msg : Message) (now : ℕ) (old new : Held D) (k : ℕ) → IsFull told_by failures stops_alone alone rs pad s msg now old k pad ⊎ IsShut told_by failures stops_alone alone rs pad s msg old k
+      → true ≡ not (is_shut rs pad) → IsAt told_by failures stops_alone alone rs new (leave pad s) → IsFull told_by failures stops_alone alone rs pad s msg now new k (leave pad s)
+  room-settles pad s msg now old new k (inl f) e a = (f.0, a, f.2, f.3)
+  room-settles pad s msg now old new k (inr f) e a = absurd (let z : true ≡ false = e ∙ ap not f.3 in cc)
+
+  pub shut-settles : (pad : PadState) (s : Session) (msg : Message) (now : ℕ) (old new : Held D) (k : ℕ) → IsFull told_by failures stops_alone alone rs pad s msg now old k pad ⊎ IsShut told_by failures stops_alone alone rs pad s msg old k
+      → false ≡ not (is_shut rs pad) → IsAt told_by failures stops_alone alone rs new (leave pad s) → IsShut told_by failures stops_alone alone rs pad s msg new k
+  shut-settles pad s msg now old new k (inl f) e a = absurd (let z : false ≡ true = e ∙ ap not f.2 in cc)
+  shut-settles pad s msg now old new k (inr f) e a = (
+    f.0,
+    f.1,
+    subst (IsAt told_by failures stops_alone alone rs new) (dead-left pad s (bad.Dead (Reopened pad.epoch)) (ap (λ o. dead_if (end_of pad.epoch o)) f.1)) a,
+    f.3,
+    f.4,
+  )
 
   -- or it is refused, or the journal has no room
   pub not-made : (old new : Held D) (pad : PadState) (s : Session) (msg : Message) (now : ℕ) (b : PadBad) → is_edit msg.change.edit ≡ true

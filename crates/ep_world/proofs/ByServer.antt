@@ -27,7 +27,7 @@ use Rattle.ep_world.specs.Actors.{found}
 use Rattle.ep_world.specs.Events.{event_at, happened, has_text, is_known, kept_happened}
 use Rattle.ep_world.specs.Failing.{shown_or_failed}
 use Rattle.ep_world.specs.Shows.{pad_refuses, shows, shows_created, shows_deleted, shows_set}
-use Rattle.ep_world.specs.Journal.{Decides, behind, full_by, journal_after, no_room, record_at, record_in, shows_full}
+use Rattle.ep_world.specs.Journal.{Decides, behind, full_for, full_in, journal_after, journal_full, no_room, record_at, record_in, shows_full}
 use Rattle.ep_world.specs.Standing.{Comes, IsAnswered, IsAt, StandsFor, answer_of, overfull_at, pad_after}
 use Rattle.ep_world.specs.Standing.IsPlayed.{IsEvent, HasNoRoom}
 use Rattle.ep_world.proofs.Brought.{unless-answers, unless-refuses}
@@ -44,7 +44,9 @@ pub record Refusing (w x : WorldState) (ks js : Kepts) (pad : PadState) (now : �
   pub after : (rs : List Record) → journal_after rs w now true e ≡ behind rs (record_at w now e)
   pub decides : (rs : List Record) → Decides rs w now e true
   pub same : w.pad ≡ pad
-  pub full : (happened w (overfull_at e) ≡ x) × (kept_happened w ks (overfull_at e) ≡ js)
+  pub fulls : (rs : List Record) → full_for rs w now true e ≡ full_in rs w.pad (record_at w now e)
+  pub left : (rs : List Record) → journal_full rs w now true e ≡ rs
+  pub full : (rs : List Record) → (happened w (overfull_at rs w now true e) ≡ x) × (kept_happened w ks (overfull_at rs w now true e) ≡ js)
 
 module _ {D : Type 0} (told_by : D → Option Contents) (failures : D → ℕ) (stops_alone : D → Bool) (alone : Bool) (rs : List Record) where
   -- an event is refused by the pad
@@ -60,13 +62,13 @@ module _ {D : Type 0} (told_by : D → Option Contents) (failures : D → ℕ) (
       unrecorded : (b : PadBad) → outcome pad entry ≡ Refuses b → record_at w now e ≡ None
       unrecorded b h = f.adds ∙ ap record_in h
 
-      plain : (b : PadBad) → (outcome pad entry ≡ Refuses b) × IsAt told_by failures stops_alone alone rs new.machine pad → come (Ok (pad_refuses v n b))
+      plain : (b : PadBad) → (outcome pad entry ≡ Refuses b) × IsAt told_by failures stops_alone alone rs new.machine pad × (full_in rs pad None ≡ None) → come (Ok (pad_refuses v n b))
       plain b h =
           let l = f.leaves b h.0 in
           let u = unrecorded b h.0 in (
             f.known,
             f.text,
-            IsEvent true (sym (f.shown b h.0)) (ap (λ o. shows_full e (full_by rs w.pad o)) u) (λ _. f.decides rs)
+            IsEvent true (sym (f.shown b h.0)) (ap (shows_full e) (f.fulls rs ∙ ap (full_in rs w.pad) u ∙ ap (λ p. full_in rs p None) f.same ∙ h.2)) (λ _. f.decides rs)
                 (subst (λ q. StandsFor told_by failures stops_alone alone q new (happened w (event_at w now true e)) (kept_happened w ks (event_at w now true e)))
                 (sym (f.after rs ∙ ap (behind rs) u))
                 (subst (λ y. StandsFor told_by failures stops_alone alone rs new y (kept_happened w ks (event_at w now true e))) (sym l.0)
@@ -76,15 +78,14 @@ module _ {D : Type 0} (told_by : D → Option Contents) (failures : D → ℕ) (
       go : (b : PadBad) → IsAnswered told_by failures stops_alone alone rs old.machine pad entry (Err b) new.machine → come (shown_or_failed v n b)
       go (bad.Store k) a = tt
       go bad.NoMemory a = tt
-      go (bad.JournalFull k) (m, inl h) = plain (bad.JournalFull k) (h, m)
-      go (bad.JournalFull k) (m, inr r) = (
+      go (bad.JournalFull k) (m, h) = (
         f.known,
         f.text,
-        HasNoRoom
-            (ap (λ o. shows_full e (full_by rs w.pad o)) (f.adds ∙ ap record_in r.3)
-            ∙ ap (λ p. shows_full e (full_by rs p (Some r.0))) f.same ∙ ap (shows_full e) r.4 ∙ f.room k)
-            (subst (λ y. StandsFor told_by failures stops_alone alone rs new y (kept_happened w ks (overfull_at e))) (sym f.full.0)
-            (subst (StandsFor told_by failures stops_alone alone rs new x) (sym f.full.1) (stands m))),
+        HasNoRoom true
+            (ap (shows_full e) (f.fulls rs ∙ ap (full_in rs w.pad) f.adds ∙ ap (λ p. full_in rs p (record_in (outcome pad entry))) f.same ∙ h) ∙ f.room k) (λ _. f.decides rs)
+            (subst (λ q. StandsFor told_by failures stops_alone alone q new (happened w (overfull_at rs w now true e)) (kept_happened w ks (overfull_at rs w now true e))) (sym (f.left rs))
+            (subst (λ y. StandsFor told_by failures stops_alone alone rs new y (kept_happened w ks (overfull_at rs w now true e))) (sym (f.full rs).0)
+            (subst (StandsFor told_by failures stops_alone alone rs new x) (sym (f.full rs).1) (stands m)))),
       )
       go (bad.Dead why) a = plain (bad.Dead why) a
       go (bad.Denied k) a = plain (bad.Denied k) a
@@ -120,7 +121,9 @@ module _ {D : Type 0} (told_by : D → Option Contents) (failures : D → ℕ) (
     after = λ rs. refl;
     decides = λ rs. tt;
     same = refl;
-    full = (refl, refl);
+    fulls = λ rs. refl;
+    left = λ rs. refl;
+    full = λ rs. (refl, refl);
   }
     where
       fault : (b : PadBad) → outcome w.pad (Create text now) ≡ Refuses b → create_fault w.pad text ≡ Some b
@@ -161,7 +164,9 @@ module _ {D : Type 0} (told_by : D → Option Contents) (failures : D → ℕ) (
     after = λ rs. refl;
     decides = λ rs. tt;
     same = refl;
-    full = (refl, refl);
+    fulls = λ rs. refl;
+    left = λ rs. refl;
+    full = λ rs. (refl, refl);
   }
     where
       fault : (b : PadBad) → outcome w.pad (SetText text now) ≡ Refuses b → set_fault w.pad text ≡ Some b
@@ -205,7 +210,9 @@ module _ {D : Type 0} (told_by : D → Option Contents) (failures : D → ℕ) (
     after = λ rs. refl;
     decides = λ rs. tt;
     same = refl;
-    full = (refl, refl);
+    fulls = λ rs. refl;
+    left = λ rs. refl;
+    full = λ rs. (refl, refl);
   }
     where
       fault : (b : PadBad) → outcome w.pad (Delete now) ≡ Refuses b → gone_fault w.pad ≡ Some b

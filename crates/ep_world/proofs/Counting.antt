@@ -41,87 +41,8 @@ use Rattle.ep_world.specs.Failing.{IsCaused, failed, shown_or_failed}
 use Rattle.ep_world.specs.Standing.{IsAt, IsEnded, Said}
 use Rattle.ep_world.specs.Taking.{not_made}
 use Rattle.ep_world.proofs.Calls.{MakesMarked, journal-full}
-
--- ---- refusals by the rules
-
--- it is neither the store's nor the journal's
-abbrev pub IsPlain : PadBad → Type 0
-IsPlain (bad.Store n) = ⊥
-IsPlain (bad.JournalFull n) = ⊥
-IsPlain b = Unit {0}
-
-abbrev pub IsPlainIf : Option PadBad → Type 0
-IsPlainIf None = Unit {0}
-IsPlainIf (Some b) = IsPlain b
-
-abbrev ArePlain : List (Option PadBad) → Type 0
-ArePlain [] = Unit {0}
-ArePlain (f ∷ fs) = IsPlainIf f × ArePlain fs
-
-first-plain : (fs : List (Option PadBad)) → ArePlain fs → IsPlainIf (first_fault fs)
-first-plain [] p = tt
-first-plain (None ∷ fs) p = first-plain fs p.1
-first-plain (Some b ∷ fs) p = p.0
-
-if-plain : (t : Bool) (b : PadBad) → IsPlain b → IsPlainIf (fault_if t b)
-if-plain true b p = p
-if-plain false b p = tt
-
-dead-plain : (o : Option Why) → IsPlainIf (dead_if o)
-dead-plain None = tt
-dead-plain (Some why) = tt
-
-refusal-plain : (pad : PadState) (s : Session) (base : ℕ) (c : Change) → IsPlainIf (refusal pad s base c)
-refusal-plain pad s base c = seat (seat_of pad s)
-  where
-    author : (o : Option ℕ) → IsPlainIf (author_fault o)
-    author None = tt
-    author (Some i) = tt
-
-    fits : (o : Option FitBad) → IsPlainIf (fit_fault o)
-    fits None = tt
-    fits (Some why) = tt
-
-    live : (l : Seat) (o : Option Why) → IsPlainIf (live_fault pad l o base c)
-    live l (Some why) = tt
-    live l None = first-plain (edit_faults pad l base c) (if-plain _ _ tt, (if-plain _ _ tt, (author _, (fits _, (if-plain _ _ tt, tt)))))
-
-    seat : (o : Option Seat) → IsPlainIf (seat_fault pad o base c)
-    seat None = tt
-    seat (Some l) = live l l.end
-
--- so is the refusal of an entry
-abbrev pub IsPlainOutcome : Outcome → Type 0
-IsPlainOutcome (Refuses b) = IsPlain b
-IsPlainOutcome (Answers a p) = Unit {0}
-IsPlainOutcome (Records r a p) = Unit {0}
-
-unless-plain : (f : Option PadBad) (o : Outcome) → IsPlainIf f → IsPlainOutcome o → IsPlainOutcome (unless f o)
-unless-plain None o p q = q
-unless-plain (Some b) o p q = p
-
-pub outcome-plain : (pad : PadState) (e : Entry) → IsPlainOutcome (outcome pad e)
-outcome-plain pad (Login g now) =
-    unless-plain (login_fault pad g) (logs_in pad g now)
-    (first-plain (login_faults pad g) (if-plain _ _ tt, (if-plain _ _ tt, (if-plain _ _ tt, (if-plain _ _ tt, tt)))))
-    (one-of pad.present _ _ tt tt)
-  where
-    one-of : (t : Bool) (x y : Outcome) → IsPlainOutcome x → IsPlainOutcome y → IsPlainOutcome (if t then x else y)
-    one-of true x y p q = p
-    one-of false x y p q = q
-outcome-plain pad (Resume g rev birth author now) =
-    unless-plain (resume_fault pad g rev birth author) _
-    (first-plain (resume_faults pad g rev birth author) (if-plain _ _ tt, (if-plain _ _ tt, (if-plain _ _ tt, (if-plain _ _ tt, (if-plain _ _ tt, (if-plain _ _ tt, tt))))))) tt
-outcome-plain pad (Accept s base c now) = unless-plain (refusal pad s base c) _ (refusal-plain pad s base c) tt
-outcome-plain pad (Fetch s from told) = unless-plain (fetch_fault pad s from) _ (first-plain (fetch_faults pad s from) (dead-plain _, (if-plain _ _ tt, tt))) tt
-outcome-plain pad (Leave s) = unless-plain (dead_fault pad s) _ (dead-plain _) tt
-outcome-plain pad (Create text now) = unless-plain (create_fault pad text) _ (first-plain (create_faults pad text) (if-plain _ _ tt, (if-plain _ _ tt, tt))) tt
-outcome-plain pad (SetText text now) = unless-plain (set_fault pad text) _ (first-plain (set_faults pad text) (if-plain _ _ tt, (if-plain _ _ tt, tt))) tt
-outcome-plain pad (Delete now) = unless-plain (gone_fault pad) _ (if-plain _ _ tt) tt
-outcome-plain pad (SetPublic on) = unless-plain (gone_fault pad) _ (if-plain _ _ tt) tt
-outcome-plain pad (ReadText rev) = unless-plain (text_fault pad rev) _ (first-plain (text_faults pad rev) (if-plain _ _ tt, (if-plain _ _ tt, tt))) tt
-outcome-plain pad (ReadHistory s start count) = unless-plain (history_fault pad s start) _ (first-plain (history_faults pad s start) (dead-plain _, (if-plain _ _ tt, tt))) tt
-outcome-plain pad ReadStatus = unless-plain (gone_fault pad) _ (if-plain _ _ tt) tt
+use Rattle.ep_world.proofs.Plain.{IsPlain, IsPlainIf, IsPlainOutcome, dead-plain, first-plain, if-plain, outcome-plain}
+use Rattle.ep_world.proofs.Shut.{at-kept, at-stands, at-state}
 
 -- ---- entries that record nothing
 
@@ -136,15 +57,6 @@ unless-reading (Some b) a p q = q
 
 pub status-reads : (pad : PadState) → IsReading (outcome pad ReadStatus)
 status-reads pad = unless-reading (gone_fault pad) _ _ (if-plain _ _ tt)
-
-pub text-reads : (pad : PadState) (rev : Option ℕ) → IsReading (outcome pad (ReadText rev))
-text-reads pad rev = unless-reading (text_fault pad rev) _ _ (first-plain (text_faults pad rev) (if-plain _ _ tt, (if-plain _ _ tt, tt)))
-
-pub leave-reads : (pad : PadState) (s : Session) → IsReading (outcome pad (Leave s))
-leave-reads pad s = unless-reading (dead_fault pad s) _ _ (dead-plain _)
-
-pub fetch-reads : (pad : PadState) (s : Session) (from told : ℕ) → IsReading (outcome pad (Fetch s from told))
-fetch-reads pad s from told = unless-reading (fetch_fault pad s from) _ _ (first-plain (fetch_faults pad s from) (dead-plain _, (if-plain _ _ tt, tt)))
 
 -- ---- a step of a machine
 
@@ -176,6 +88,32 @@ pub step-counts : (st next : MachineState) (e : Entry) (reply : Reply) → IsOpe
 step-counts st next e reply (Does r t) = turned-counts st next (is_recordable e) (outcome st.pad e) reply (outcome-plain st.pad e) r t
 step-counts st next e reply (Lacks r t) = subst (ReplyCounts st.faults next.faults) (sym r) t.1
 step-counts st next e reply (Fails count r adds q h t) = subst (ReplyCounts st.faults next.faults) (sym q) record { is = h.0; risen = h.1 }
+
+reopened-faults : (k : Bool) (st : MachineState) → (reopening (settled k st)).faults ≡ st.faults
+reopened-faults true st = refl
+reopened-faults false st = refl
+
+settled-faults : (k : Bool) (st : MachineState) → (settled k st).faults ≡ st.faults
+settled-faults true st = refl
+settled-faults false st = refl
+
+closed-counts : (st next : MachineState) (e : Entry) (reply : Reply) → IsClosedStep size st e reply next → ReplyCounts st.faults next.faults reply
+closed-counts st next e reply (Finds k step) = found step
+  where
+    found : IsFoundStep size (settled k st) e reply next → ReplyCounts st.faults next.faults reply
+    found (Opens fits step) = subst (λ (f : ℕ). ReplyCounts f next.faults reply) (reopened-faults k st) (step-counts (reopening (settled k st)) next e reply step)
+    found (IsFull full j r t) =
+        let f = journal-full (settled k st) (open_record (settled k st)) full j in
+        subst (ReplyCounts st.faults next.faults) (sym (r ∙ ap Err f.1)) (subst (λ (f : ℕ). f ≤ next.faults) (settled-faults k st) t.1)
+    found (FailsOpened count j r h t) =
+        subst (ReplyCounts st.faults next.faults) (sym r) (subst (λ (f : ℕ). HasRisenTo f next.faults count) (settled-faults k st) record { is = h.0; risen = h.1 })
+closed-counts st next e reply (LacksOpening r t) = subst (ReplyCounts st.faults next.faults) (sym r) t.1
+closed-counts st next e reply (FailsOpening count r h t) = subst (ReplyCounts st.faults next.faults) (sym r) record { is = h.0; risen = h.1 }
+
+-- of an open machine or a closed one
+any-counts : (b : Bool) (st next : MachineState) (e : Entry) (reply : Reply) → IsStepAs b size st e reply next → ReplyCounts st.faults next.faults reply
+any-counts true st next e reply step = step-counts st next e reply step
+any-counts false st next e reply step = closed-counts st next e reply step
 
 -- where nothing is recorded the journal's limit refuses nothing
 never-full : (st next : MachineState) (e : Entry) (n : ℕ) → IsReading (outcome st.pad e) → IsOpenStep size st e (Err (bad.JournalFull n)) next → ⊥
@@ -226,17 +164,19 @@ sleeps-store st next n s = go (s.1 ReadStatus)
     go (LacksOpening r t) = absurd cc
     go (FailsOpening count r h t) = risen count r st.faults refl h
 
-pub sleeps-full : (st next : MachineState) (n : ℕ) → Sleeps st (bad.JournalFull n) next
-    → (k : Bool) × (journal_fault size (settled k st) (open_record (settled k st)) ≡ Some (bad.JournalFull n))
+-- it is settled, and the journal has no room for its opening
+abbrev pub IsAsleep : MachineState → ℕ → MachineState → Type 0
+IsAsleep st n next = (k : Bool) × (journal_fault size (settled k st) (open_record (settled k st)) ≡ Some (bad.JournalFull n)) × IsThen (settled k st) next
+
+pub sleeps-full : (st next : MachineState) (n : ℕ) → Sleeps st (bad.JournalFull n) next → IsAsleep st n next
 sleeps-full st next n s = go (s.1 ReadStatus)
   where
-    found : (k : Bool) → IsFoundStep size (settled k st) ReadStatus (Err (bad.JournalFull n)) next
-        → (k : Bool) × (journal_fault size (settled k st) (open_record (settled k st)) ≡ Some (bad.JournalFull n))
+    found : (k : Bool) → IsFoundStep size (settled k st) ReadStatus (Err (bad.JournalFull n)) next → IsAsleep st n next
     found k (Opens fits step) = absurd (never-full (reopening (settled k st)) next ReadStatus n (status-reads (reopening (settled k st)).pad) step)
-    found k (IsFull full j r t) = let same : full ≡ bad.JournalFull n = cc in (k, j ∙ ap Some same)
+    found k (IsFull full j r t) = let same : full ≡ bad.JournalFull n = cc in (k, j ∙ ap Some same, t)
     found k (FailsOpened count j r h t) = absurd cc
 
-    go : IsClosedStep size st ReadStatus (Err (bad.JournalFull n)) next → (k : Bool) × (journal_fault size (settled k st) (open_record (settled k st)) ≡ Some (bad.JournalFull n))
+    go : IsClosedStep size st ReadStatus (Err (bad.JournalFull n)) next → IsAsleep st n next
     go (Finds k step) = found k step
     go (LacksOpening r t) = absurd cc
     go (FailsOpening count r h t) = absurd cc
@@ -262,10 +202,9 @@ counts-from a b c (Ok x) h r = omega (arith, h, r)
 counts-from a b c (Err x) h r = caused-from a b c x h r
 
 -- a failure below is one of the world
-pub failed-caused : (before now : ℕ) (b : PadBad) → ((n : ℕ) → b ≡ bad.JournalFull n → ⊥) → BadCounts before now b → IsCaused before now (failed b)
-failed-caused before now (bad.Store n) f h = h
-failed-caused before now (bad.JournalFull n) f h = f n refl
-failed-caused before now b f h = tt
+pub failed-caused : (before now : ℕ) (b : PadBad) → BadCounts before now b → IsCaused before now (failed b)
+failed-caused before now (bad.Store n) h = h
+failed-caused before now b h = tt
 
 pub not-made-counts : (before now : ℕ) (b : PadBad) → BadCounts before now b → Counts before now (not_made b)
 not-made-counts before now (bad.Store n) h = h
@@ -320,21 +259,17 @@ refused-ends alone rs w now e before after v n (bad.Store c) h = caused-ends alo
 refused-ends alone rs w now e before after v n bad.NoMemory h = tt
 refused-ends alone rs w now e before after v n b h = tt
 
--- ---- a call of an open machine
+-- ---- a call of a machine
 
 module _ {D : Type 0} (told_by : D → Option Contents) (failures : D → ℕ) (stops_alone : D → Bool) (alone : Bool) (rs : List Record) where
-  -- its step
-  pub open-step : (old new : Held D) (pad : PadState) (e : Entry) (reply : Reply) (a : IsAt told_by failures stops_alone alone rs old pad)
-      → (next : MachineState) × IsStep size a.state e reply next → (next : MachineState) × IsOpenStep size a.state e reply next
-  open-step old new pad e reply a n = (n.0, subst (λ b. IsStepAs b size a.state e reply n.0) a.is_open n.1)
-
   pub reply-counts : (old new : Held D) (pad : PadState) (e : Entry) (reply : Reply) → IsAt told_by failures stops_alone alone rs old pad → MakesMarked told_by failures stops_alone alone old e reply new
       → ReplyCounts (failures old.disk) (failures new.disk) reply
   reply-counts old new pad e reply a makes =
-      let n = makes a.state a.kept a.stands in
-      let step = subst (λ b. IsStepAs b size a.state e reply n.0) a.is_open n.1 in
+      let st = at-state told_by failures stops_alone alone rs old pad a in
+      let stands = at-stands told_by failures stops_alone alone rs old pad a in
+      let n = makes st (at-kept told_by failures stops_alone alone rs old pad a) stands in
       subst (λ (k : ℕ). ReplyCounts (failures old.disk) k reply) n.2.faults
-      (subst (λ (k : ℕ). ReplyCounts k n.0.faults reply) a.stands.faults (step-counts a.state n.0 e reply step))
+      (subst (λ (k : ℕ). ReplyCounts k n.0.faults reply) stands.faults (any-counts st.is_open st n.0 e reply n.1))
 
   -- by what the call was answered
   pub ok-counts : {A : Type 0} (old new : Held D) (pad : PadState) (e : Entry) (f : A → Answer) (r : Result A PadBad) (x : A) → IsAt told_by failures stops_alone alone rs old pad
@@ -347,16 +282,10 @@ module _ {D : Type 0} (told_by : D → Option Contents) (failures : D → ℕ) (
   err-counts old new pad e f r b a makes is =
       subst (λ y. ReplyCounts (failures old.disk) (failures new.disk) (replied f y)) is (reply-counts old new pad e (replied f r) a makes)
 
-  -- where nothing is recorded
-  pub reads-fails : {A : Type 0} (old new : Held D) (pad : PadState) (e : Entry) (f : A → Answer) (r : Result A PadBad) (b : PadBad) → IsReading (outcome pad e) → IsAt told_by failures stops_alone alone rs old pad
+  -- where it fails, that has its cause
+  pub reads-fails : {A : Type 0} (old new : Held D) (pad : PadState) (e : Entry) (f : A → Answer) (r : Result A PadBad) (b : PadBad) → IsAt told_by failures stops_alone alone rs old pad
       → MakesMarked told_by failures stops_alone alone old e (replied f r) new → r ≡ Err b → IsCaused (failures old.disk) (failures new.disk) (failed b)
-  reads-fails old new pad e f r b reads a makes is = failed-caused (failures old.disk) (failures new.disk) b (λ n q. full n (is ∙ ap Err q)) (err-counts old new pad e f r b a makes is)
-    where
-      full : (n : ℕ) → r ≡ Err (bad.JournalFull n) → ⊥
-      full n q =
-          let m = makes a.state a.kept a.stands in
-          let step = subst (λ b. IsStepAs b size a.state e (replied f r) m.0) a.is_open m.1 in
-          never-full a.state m.0 e n (subst (λ p. IsReading (outcome p e)) (sym a.pad) reads) (subst (λ y. IsOpenStep size a.state e (replied f y) m.0) q step)
+  reads-fails old new pad e f r b a makes is = failed-caused (failures old.disk) (failures new.disk) b (err-counts old new pad e f r b a makes is)
 
   -- a fetch of the first revisions
   abbrev pub FetchesMarked : Held D → Session → ℕ → ℕ → ℕ → Result Fetched PadBad → Held D → Type 0
@@ -367,27 +296,22 @@ module _ {D : Type 0} (told_by : D → Option Contents) (failures : D → ℕ) (
   pub fetched-counts : (old new : Held D) (pad : PadState) (s : Session) (from told n : ℕ) (r : Result Fetched PadBad) (x : Fetched) → IsAt told_by failures stops_alone alone rs old pad
       → FetchesMarked old s from told n r new → r ≡ Ok x → failures old.disk ≤ failures new.disk
   fetched-counts old new pad s from told n r x a makes is =
-      let m = makes a.state a.kept a.stands in
-      let w = subst (λ y. IsStepOfFirst a.state s from told n y m.0) is m.1 in
-      let step = subst (λ b. IsStepAs b size a.state (Fetch s from told) (Ok (FetchAnswer w.0)) m.0) a.is_open w.1 in
-      subst (λ (k : ℕ). failures old.disk ≤ k) m.2.faults (subst (λ (k : ℕ). k ≤ m.0.faults) a.stands.faults (step-counts a.state m.0 (Fetch s from told) (Ok (FetchAnswer w.0)) step))
+      let st = at-state told_by failures stops_alone alone rs old pad a in
+      let stands = at-stands told_by failures stops_alone alone rs old pad a in
+      let m = makes st (at-kept told_by failures stops_alone alone rs old pad a) stands in
+      let w = subst (λ y. IsStepOfFirst st s from told n y m.0) is m.1 in
+      subst (λ (k : ℕ). failures old.disk ≤ k) m.2.faults
+      (subst (λ (k : ℕ). k ≤ m.0.faults) stands.faults (any-counts st.is_open st m.0 (Fetch s from told) (Ok (FetchAnswer w.0)) w.1))
 
   pub unfetched-counts : (old new : Held D) (pad : PadState) (s : Session) (from told n : ℕ) (r : Result Fetched PadBad) (b : PadBad) → IsAt told_by failures stops_alone alone rs old pad
       → FetchesMarked old s from told n r new → r ≡ Err b → BadCounts (failures old.disk) (failures new.disk) b × IsCaused (failures old.disk) (failures new.disk) (failed b)
-  unfetched-counts old new pad s from told n r b a makes is = (counts, failed-caused (failures old.disk) (failures new.disk) b (λ k q. full k q) counts)
+  unfetched-counts old new pad s from told n r b a makes is = (counts, failed-caused (failures old.disk) (failures new.disk) b counts)
     where
-      step : (b : PadBad) → r ≡ Err b → (next : MachineState) × IsOpenStep size a.state (Fetch s from told) (Err b) next × Stands told_by failures new next
-      step b is =
-          let m = makes a.state a.kept a.stands in
-          (m.0, subst (λ t. IsStepAs t size a.state (Fetch s from told) (Err b) m.0) a.is_open (subst (λ y. IsStepOfFirst a.state s from told n y m.0) is m.1), m.2)
-
       counts : BadCounts (failures old.disk) (failures new.disk) b
       counts =
-          let m = step b is in
+          let st = at-state told_by failures stops_alone alone rs old pad a in
+          let stands = at-stands told_by failures stops_alone alone rs old pad a in
+          let m = makes st (at-kept told_by failures stops_alone alone rs old pad a) stands in
+          let w = subst (λ y. IsStepOfFirst st s from told n y m.0) is m.1 in
           subst (λ (k : ℕ). BadCounts (failures old.disk) k b) m.2.faults
-          (subst (λ (k : ℕ). BadCounts k m.0.faults b) a.stands.faults (step-counts a.state m.0 (Fetch s from told) (Err b) m.1))
-
-      full : (k : ℕ) → b ≡ bad.JournalFull k → ⊥
-      full k q =
-          let m = step (bad.JournalFull k) (is ∙ ap Err q) in
-          never-full a.state m.0 (Fetch s from told) k (subst (λ p. IsReading (outcome p (Fetch s from told))) (sym a.pad) (fetch-reads pad s from told)) m.1
+          (subst (λ (k : ℕ). BadCounts k m.0.faults b) stands.faults (any-counts st.is_open st m.0 (Fetch s from told) (Err b) w))

@@ -1,5 +1,5 @@
 -- What a crash comes to, and an opening.
-use Rattle.std.proofs.Common.{◌≡◌, ℕ, Bool, true, false, not, List, [], ◌∷◌, ◌++◌, length, Option, Some, None, Result, Ok, Err, ◌⊎◌, inl, inr, if◌then◌else◌, refl, sym, ap, ◌∙◌, subst, append-nil, arith}
+use Rattle.std.proofs.Common.{◌≡◌, ℕ, suc, ◌<◌, Bool, true, false, not, List, [], ◌∷◌, ◌++◌, length, Option, Some, None, Result, Ok, Err, ◌⊎◌, inl, inr, if◌then◌else◌, refl, sym, ap, ◌∙◌, subst, append-nil, arith}
 use Rattle.std.specs.Option.{option_map}
 use Rattle.std.specs.Prelude.{◌&&◌, IfOk, MatchResult, is_none}
 use Rattle.std.proofs.lemmas.List.{length-append}
@@ -12,14 +12,15 @@ use Rattle.ep_cs.specs.Change.{Change}
 use Rattle.ep_cs.specs.EditFits.{is_edit}
 use Rattle.ep_cs.specs.NormalRuns.{IsNormal}
 use Rattle.ep_cs.specs.Fits.{is_identity}
-use Rattle.ep_history.specs.Accept.{at_head, by_session, committed, refusal}
+use Rattle.ep_history.specs.Accept.{at_head, by_session, committed, refusal, seat_fault}
+use Rattle.ep_history.specs.declared.seat.Why.TheVariants as end
 use Rattle.ep_history.specs.Entries.{Answer, Entry, Reply, unless}
 use Rattle.ep_history.specs.Entries.Answer.{CommitAnswer, StatusAnswer}
 use Rattle.ep_history.specs.Entries.Entry.{Accept, ReadStatus}
 use Rattle.ep_history.specs.Entries.Outcome.{Answers, Records}
 use Rattle.ep_history.specs.History.{head, head_doc, nop_by, step_revs}
 use Rattle.ep_history.specs.Kept.{KeptClient, kept_lost}
-use Rattle.ep_history.specs.Machine.{MachineState, Turn, IsKeptState, IsOpenStep, IsStepAs, IsStep, IsThen, closed, journal_fault, keeping, reopening, settled, turn, turn_of}
+use Rattle.ep_history.specs.Machine.{MachineState, Turn, IsKeptState, IsOpenStep, IsStepAs, IsStep, IsThen, closed, journal_fault, keeping, open_record, reopening, settled, turn, turn_of}
 use Rattle.ep_history.specs.Machine.IsOpenStep.{Does, Lacks, Fails}
 use Rattle.ep_history.specs.Pad.{PadState, newest, reopened, with_nops, with_revs}
 use Rattle.ep_history.specs.Readings.{PadStatus as APadStatus, commit, status}
@@ -40,7 +41,7 @@ use Rattle.ep_schedule.specs.World.{Name, Actor as AnActor, Conn, Member as AMem
 use Rattle.ep_schedule.specs.World.Reason.{Refused}
 use Rattle.ep_schedule.specs.World.Actor.{Nobody, Guest, Named}
 use Rattle.ep_pad.specs.Held.{Held}
-use Rattle.ep_pad.specs.Opening.{IsWoken, stopped}
+use Rattle.ep_pad.specs.Opening.{IsWoken, Sleeps, stopped}
 use Rattle.ep_pad.specs.Opening.IsWoken.{Was, Opened}
 use Rattle.ep_pad.specs.Standing.{Stands, opening, replied}
 use Rattle.ep_pad.specs.Stopping.{StopsIn}
@@ -52,6 +53,8 @@ use Rattle.ep_event.specs.declared.event.Event.{Event as Told}
 use Rattle.ep_event.specs.declared.event.Event.TheVariants as told
 use Rattle.ep_event.specs.declared.event.StopAt.{StopAt}
 use Rattle.ep_event.specs.declared.shown.Shown.{Shown}
+use Rattle.ep_event.specs.declared.shown.Shown.TheVariants as shown
+use Rattle.ep_event.specs.declared.shown.Verb.TheVariants as verb
 use Rattle.ep_world.specs.declared.actors.Actor.{Actor}
 use Rattle.ep_world.specs.declared.actors.Actor.TheVariants as actor
 use Rattle.ep_world.specs.declared.actors.Slot.{Slot}
@@ -60,17 +63,19 @@ use Rattle.ep_world.specs.declared.bad.WorldBad.TheVariants as world_bad
 use Rattle.ep_world.specs.declared.message.Sent.{Sent}
 use Rattle.ep_world.specs.declared.world.World.{World}
 use Rattle.ep_world.specs.Actors.{IsSame, IsWithout, PutsActor, actor_of, found, kept_cut_off, member_of}
-use Rattle.ep_world.specs.Events.{is_nobody}
+use Rattle.ep_world.specs.Events.{is_known, is_nobody, stopped_name}
 use Rattle.ep_world.specs.Conns.{KeptConn, conn_of, kept_cut, sent_of}
 use Rattle.ep_world.specs.Failing.{IsFailure}
-use Rattle.ep_world.specs.Journal.{behind, full_by, kept_record, keeps_record, record_if, record_in, record_taken}
-use Rattle.ep_world.specs.Shows.{shows_opening}
-use Rattle.ep_world.specs.Standing.{Comes, IsAnswered, IsAt, StandsFor, answer_of, pad_after}
-use Rattle.ep_world.specs.Standing.IsPlayed.{IsEvent}
-use Rattle.ep_world.specs.Stopping.{BreaksOff, FindsFirst, Reopens, TakesFirst, TakesSent, broken_by, broken_off, journal_broken, taken_if, taken_of}
+use Rattle.ep_world.specs.Journal.{Decides, behind, full_by, full_in, is_shut, journal_left, kept_record, keeps_record, no_room, record_if, record_in, record_taken, shows_full, unopened}
+use Rattle.ep_world.specs.Shows.{pad_refuses, shows_opening}
+use Rattle.ep_world.specs.Standing.{Comes, IsAnswered, IsAt, IsOpenAt, IsShutAt, StandsFor, answer_of, pad_after}
+use Rattle.ep_world.specs.Standing.IsPlayed.{IsEvent, HasNoRoom}
+use Rattle.ep_world.specs.Stopping.{BreaksOff, FindsFirst, Reopens, Starts, TakesFirst, TakesSent, broken_by, broken_off, journal_broken, shows_start, shows_start_if, taken_if, taken_of}
 use Rattle.ep_world.proofs.Brought.{reason-of, reason-unread, sent-read, sent-unread, unless-answers, unless-refuses-answer}
 use Rattle.ep_world.proofs.Conns.{takes-message, takes-none}
+use Rattle.ep_world.proofs.Counting.{IsAsleep, sleeps-full}
 use Rattle.ep_world.proofs.Seating.{is-nobody, same-stands}
+use Rattle.ep_world.proofs.Shut.{full-shut, none-pending, open-full, open-shut, opens-free, settled-closed, settled-records, settled-whole, shut-again, shut-full, shut-seat, unopened-alike}
 
 -- what is there where a call is done may be told otherwise
 pub if-ok : {A E : Type 0} (r : Result A E) (P Q : Type 0) → (P → Q) → IfOk r (λ _. P) → IfOk r (λ _. Q)
@@ -84,17 +89,9 @@ not-lacking f (Err b) h e = let same : b ≡ bad.NoMemory = cc in h (ap Err same
 
 -- ---- what is pending
 
-pub settled-whole : (kept : Bool) (st : MachineState) → st.pending ≡ [] → (settled kept st).pad ≡ st.pad
-settled-whole true st e = ap (told_from st.pad) e
-settled-whole false st e = refl
-
 settled-then : (kept : Bool) (t new : MachineState) → IsThen t new → (settled kept new).pad ≡ (settled kept t).pad
 settled-then true t new h = ap (λ (x : MachineState). told_from x.pad x.pending) h.0
 settled-then false t new h = ap (λ (x : MachineState). x.pad) h.0
-
-pub settled-records : (kept : Bool) (st : MachineState) → st.pending ≡ [] → (settled kept st).records ≡ st.records
-settled-records true st e = ap (λ rs. st.records ++ rs) e ∙ append-nil st.records
-settled-records false st e = refl
 
 settled-records-then : (kept : Bool) (t new : MachineState) → IsThen t new → (settled kept new).records ≡ (settled kept t).records
 settled-records-then true t new h = ap (λ (x : MachineState). x.records ++ x.pending) h.0
@@ -251,9 +248,9 @@ nothing-kept true = refl
 nothing-kept false = refl
 
 pub nothing-broken : (rs : List Record) (pad : PadState) (now : ℕ) (x : Option (Session × Message)) (k : Bool) → record_taken pad now x ≡ None
-    → (broken_by pad now x k ≡ pad) × (journal_broken rs pad now x k ≡ rs ++ opening pad ∷ [])
+    → (broken_by pad now x k ≡ pad) × (journal_broken rs pad now x k ≡ rs)
 nothing-broken rs pad now x k e =
-    (go x e, ap (λ o. behind rs (kept_record k o) ++ opening pad ∷ []) e ∙ ap (λ o. behind rs o ++ opening pad ∷ []) (nothing-kept k))
+    (go x e, ap (λ o. behind rs (kept_record k o)) e ∙ ap (behind rs) (nothing-kept k))
   where
     why : (y : Session × Message) (w : Option AReason) → record_if pad y.0 now y.1 w ≡ None → taken_if pad y.0 now y.1 w ≡ pad
     why y None h = none_some (sym h)
@@ -281,6 +278,25 @@ opening-off pad s now msg true = go (reason pad s msg)
         let e = at_head pad msg.base msg.change.edit in
         one-of (is_identity e) (with_nops pad (nop_by (by_session pad s now) (head (newest pad)) ∷ [])) (with_revs pad (step_revs (by_session pad s now) e (head_doc (newest pad)))) refl refl
     go (Some why) = refl
+
+-- the limit of a pad after a take that was broken off is that of the pad before
+pub limits-off : (pad : PadState) (s : Session) (now : ℕ) (msg : Message) (b : Bool) → (broken_off pad s now msg b).limits ≡ pad.limits
+limits-off pad s now msg false = refl
+limits-off pad s now msg true = go (reason pad s msg)
+  where
+    one-of : (b : Bool) (x y : PadState) → x.limits ≡ pad.limits → y.limits ≡ pad.limits → (if b then x else y).limits ≡ pad.limits
+    one-of true x y e f = e
+    one-of false x y e f = f
+
+    go : (w : Option AReason) → (taken_if pad s now msg w).limits ≡ pad.limits
+    go None =
+        let e = at_head pad msg.base msg.change.edit in
+        one-of (is_identity e) (with_nops pad (nop_by (by_session pad s now) (head (newest pad)) ∷ [])) (with_revs pad (step_revs (by_session pad s now) e (head_doc (newest pad)))) refl refl
+    go (Some why) = refl
+
+-- a state that stopped is one whose records tell it
+stopped-kept : (st : MachineState) → IsKeptState st → IsKeptState (stopped st)
+stopped-kept st k = record { kept = k.kept; pending = k.pending; whole = λ e. absurd cc }
 
 -- the change of a message whose text spells one
 pub spelled : (msg : Message) (x : Sent) (c : Change) → x ≡ sent_of msg → x.change ≡ Ok c → msg.change ≡ c
@@ -390,7 +406,7 @@ module _ {D : Type 0} (told_by : D → Option Contents) (failures : D → ℕ) (
   reopens new st mid k (Was on is) s m = absurd cc
   reopens new st mid k (Opened kept off fits t) s m = (
     kept,
-    record {
+    inl (free kept fits, record {
       state = mid;
       stands = s;
       kept = subst IsKeptState (sym t.0) (is-kept kept);
@@ -398,9 +414,13 @@ module _ {D : Type 0} (told_by : D → Option Contents) (failures : D → ℕ) (
       records = ap (λ (x : MachineState). x.records) t.0 ∙ same-records kept;
       pad = ap (λ (x : MachineState). x.pad) t.0 ∙ same kept;
       mark = m;
-    },
+    }),
   )
     where
+      free : (kept : Bool) → journal_fault size (settled kept (stopped st)) (open_record (settled kept (stopped st))) ≡ None → unopened (settled kept st).records (settled kept st).pad ≡ None
+      free true e = e
+      free false e = e
+
       same : (kept : Bool) → reopened (settled kept (stopped st)).pad ≡ reopened (settled kept st).pad
       same true = refl
       same false = refl
@@ -409,45 +429,110 @@ module _ {D : Type 0} (told_by : D → Option Contents) (failures : D → ℕ) (
       same-records true = refl
       same-records false = refl
 
-      none : (kept : Bool) → (settled kept (stopped st)).pending ≡ []
-      none true = refl
-      none false = refl
-
-      is-stopped-kept : IsKeptState (stopped st)
-      is-stopped-kept = record { kept = k.kept; pending = k.pending; whole = λ e. absurd cc }
-
       is-kept : (kept : Bool) → IsKeptState (record (reopening (settled kept (stopped st))) { faults = mid.faults })
-      is-kept true = let x = settled-kept (stopped st) true is-stopped-kept in
+      is-kept true = let x = settled-kept (stopped st) true (stopped-kept st k) in
           record { kept = reopening-kept (settled true (stopped st)) x.kept; pending = tt; whole = λ e. refl }
-      is-kept false = let x = settled-kept (stopped st) false is-stopped-kept in
+      is-kept false = let x = settled-kept (stopped st) false (stopped-kept st k) in
           record { kept = reopening-kept (settled false (stopped st)) x.kept; pending = tt; whole = λ e. refl }
+
+  -- one whose journal has no room for the opening
+  pub sleeps : (new : Held D) (st next : MachineState) (n : ℕ) → IsKeptState st → Sleeps (stopped st) (bad.JournalFull n) next → Stands told_by failures new next → stops_alone new.disk ≡ alone
+      → Reopens told_by failures stops_alone alone st new
+  sleeps new st next n k z s m = (
+    f.0,
+    inr (n, full f.0 f.1, record {
+      state = next;
+      stands = s;
+      kept = subst IsKeptState (sym f.2.0) (is-kept f.0);
+      is_closed = ap (λ (x : MachineState). x.is_open) f.2.0 ∙ settled-closed f.0 (stopped st);
+      settled = ap (λ (x : MachineState). x.pending) f.2.0 ∙ none-pending f.0 (stopped st);
+      records = ap (λ (x : MachineState). x.records) f.2.0 ∙ same-records f.0;
+      pad = ap (λ (q : PadState). record q { epoch = suc (settled f.0 st).pad.epoch; sessions = [] }) (sym same);
+      older = subst (λ (q : PadState). q.epoch < suc (settled f.0 st).pad.epoch) (sym same) (omega arith);
+      bytes = n;
+      full = unopened-alike (settled f.0 st).records (reopened (settled f.0 st).pad) (settled f.0 st).pad refl ∙ full f.0 f.1;
+      mark = m;
+    }),
+  )
+    where
+      f : IsAsleep (stopped st) n next
+      f = sleeps-full (stopped st) next n z
+
+      full : (kept : Bool) → journal_fault size (settled kept (stopped st)) (open_record (settled kept (stopped st))) ≡ Some (bad.JournalFull n)
+          → unopened (settled kept st).records (settled kept st).pad ≡ Some (bad.JournalFull n)
+      full true e = e
+      full false e = e
+
+      same-records : (kept : Bool) → (settled kept (stopped st)).records ≡ (settled kept st).records
+      same-records true = refl
+      same-records false = refl
+
+      same-pad : (kept : Bool) → (settled kept (stopped st)).pad ≡ (settled kept st).pad
+      same-pad true = refl
+      same-pad false = refl
+
+      same : next.pad ≡ (settled f.0 st).pad
+      same = ap (λ (x : MachineState). x.pad) f.2.0 ∙ same-pad f.0
+
+      is-kept : (kept : Bool) → IsKeptState (record (settled kept (stopped st)) { faults = next.faults })
+      is-kept true = let x = settled-kept (stopped st) true (stopped-kept st k) in record { kept = x.kept; pending = tt; whole = λ e. refl }
+      is-kept false = let x = settled-kept (stopped st) false (stopped-kept st k) in record { kept = x.kept; pending = tt; whole = λ e. refl }
 
   -- a state with these records and this pad is one with those
   pub opens-as : (new : Held D) (st : MachineState) (rs : List Record) (pad : PadState) → (r : Reopens told_by failures stops_alone alone st new)
-      → (settled r.0 st).pad ≡ pad → (settled r.0 st).records ≡ rs → IsAt told_by failures stops_alone alone (rs ++ opening pad ∷ []) new (reopened pad)
+      → (settled r.0 st).pad ≡ pad → (settled r.0 st).records ≡ rs → Starts told_by failures stops_alone alone rs pad new
   opens-as new st rs pad r p q =
-      subst (λ x. IsAt told_by failures stops_alone alone (x ++ opening pad ∷ []) new (reopened pad)) q
-      (subst (λ x. IsAt told_by failures stops_alone alone ((settled r.0 st).records ++ opening x ∷ []) new (reopened x)) p r.1)
+      subst (λ x. Starts told_by failures stops_alone alone x pad new) q
+      (subst (λ x. Starts told_by failures stops_alone alone (settled r.0 st).records x new) p r.1)
 
   -- nothing is pending
-  pub opens-whole : (old new : Held D) (rs : List Record) (pad : PadState) → (a : IsAt told_by failures stops_alone alone rs old pad)
-      → Reopens told_by failures stops_alone alone a.state new → IsAt told_by failures stops_alone alone (rs ++ opening pad ∷ []) new (reopened pad)
+  pub opens-whole : (old new : Held D) (rs : List Record) (pad : PadState) → (a : IsOpenAt told_by failures stops_alone alone rs old pad)
+      → Reopens told_by failures stops_alone alone a.state new → Starts told_by failures stops_alone alone rs pad new
   opens-whole old new rs pad a r =
       let p = a.kept.whole a.is_open in
       opens-as new a.state rs pad r (settled-whole r.0 a.state p ∙ a.pad) (settled-records r.0 a.state p ∙ a.records)
 
+  -- where it was started again it is there
+  pub starts-at : (new : Held D) (rs : List Record) (pad : PadState) → Starts told_by failures stops_alone alone rs pad new
+      → (qs : List Record) × IsAt told_by failures stops_alone alone qs new (reopened pad)
+  starts-at new rs pad (inl x) = (rs ++ opening pad ∷ [], inl x.1)
+  starts-at new rs pad (inr x) = (rs, inr x.2)
+
+  -- one that is shut stays so
+  pub shut-starts : (new : Held D) (rs : List Record) (pad : PadState) → IsShutAt told_by failures stops_alone alone rs new pad → Starts told_by failures stops_alone alone rs pad new
+  shut-starts new rs pad a = inr (a.bytes, a.full, shut-again told_by failures stops_alone alone rs new pad a)
+
   -- a take that never came to the pad
-  pub breaks-nothing : (old new : Held D) (rs : List Record) (pad : PadState) (now : ℕ) (first : Option (Session × Message)) (calls : ℕ) (image : Image) → record_taken pad now first ≡ None
-      → (a : IsAt told_by failures stops_alone alone rs old pad) → Reopens told_by failures stops_alone alone a.state new
-      → BreaksOff told_by failures stops_alone alone rs pad now first calls image new
-  breaks-nothing old new rs pad now first calls image none a r =
+  pub breaks-started : (new : Held D) (rs : List Record) (pad : PadState) (now : ℕ) (first : Option (Session × Message)) (calls : ℕ) (image : Image) → record_taken pad now first ≡ None
+      → Starts told_by failures stops_alone alone rs pad new → BreaksOff told_by failures stops_alone alone rs pad now first calls image new
+  breaks-started new rs pad now first calls image none starts =
       let k = keeps_record rs pad now first calls image in
       let n = nothing-broken rs pad now first k none in (
         k,
-        subst (λ x. IsAt told_by failures stops_alone alone (journal_broken rs pad now first k) new (reopened x)) (sym n.0)
-            (subst (λ x. IsAt told_by failures stops_alone alone x new (reopened pad)) (sym n.1) (opens-whole old new rs pad a r)),
+        subst (λ x. Starts told_by failures stops_alone alone (journal_broken rs pad now first k) x new) (sym n.0)
+            (subst (λ x. Starts told_by failures stops_alone alone x pad new) (sym n.1) starts),
         λ _. refl,
       )
+
+  pub breaks-nothing : (old new : Held D) (rs : List Record) (pad : PadState) (now : ℕ) (first : Option (Session × Message)) (calls : ℕ) (image : Image) → record_taken pad now first ≡ None
+      → (a : IsOpenAt told_by failures stops_alone alone rs old pad) → Reopens told_by failures stops_alone alone a.state new
+      → BreaksOff told_by failures stops_alone alone rs pad now first calls image new
+  breaks-nothing old new rs pad now first calls image none a r = breaks-started new rs pad now first calls image none (opens-whole old new rs pad a r)
+
+  -- so of a pad that is shut
+  pub breaks-shut : (new : Held D) (rs : List Record) (pad : PadState) (now : ℕ) (first : Option (Session × Message)) (calls : ℕ) (image : Image) → IsShutAt told_by failures stops_alone alone rs new pad
+      → BreaksOff told_by failures stops_alone alone rs pad now first calls image new
+  breaks-shut new rs pad now first calls image a = breaks-started new rs pad now first calls image (none first) (shut-starts new rs pad a)
+    where
+      refused : (x : Session × Message) (b : Bool) → is_edit x.1.change.edit ≡ b → record_if pad x.0 now x.1 (reason pad x.0 x.1) ≡ None
+      refused x true e =
+          ap (record_if pad x.0 now x.1)
+          (reason-of pad x.0 x.1 (Some (bad.Dead (end.Reopened pad.epoch))) e (ap (λ o. seat_fault pad o x.1.base x.1.change) (shut-seat told_by failures stops_alone alone rs new pad x.0 a)))
+      refused x false e = ap (record_if pad x.0 now x.1) (reason-unread pad x.0 x.1 e)
+
+      none : (first : Option (Session × Message)) → record_taken pad now first ≡ None
+      none None = refl
+      none (Some x) = refused x (is_edit x.1.change.edit) refl
 
   -- an open machine is awake
   pub awake : (st mid : MachineState) → st.is_open ≡ true → IsWoken st mid → mid ≡ st
@@ -472,12 +557,7 @@ module _ {D : Type 0} (told_by : D → Option Contents) (failures : D → ℕ) (
     breaks-at : (next : MachineState) (b : Bool) (r : Reopens told_by failures stops_alone alone next new) → (settled r.0 next).pad ≡ broken_off st.pad s now msg b
         → (settled r.0 next).records ≡ behind st.records (kept_record b (record_if st.pad s now msg (reason st.pad s msg)))
         → (alone ≡ true → b ≡ keeps_record st.records st.pad now (Some (s, msg)) calls image) → BreaksAt
-    breaks-at next b r p q d = (
-      b,
-      subst (λ x. IsAt told_by failures stops_alone alone (behind st.records (kept_record b (record_if st.pad s now msg (reason st.pad s msg))) ++ x ∷ []) new (reopened (broken_off st.pad s now msg b)))
-          (opening-off st.pad s now msg b) (opens-as new next _ (broken_off st.pad s now msg b) r p q),
-      d,
-    )
+    breaks-at next b r p q d = (b, opens-as new next _ (broken_off st.pad s now msg b) r p q, d)
 
     breaks-open : (alone ≡ false) → Broken st (Accept s msg.base msg.change now) reply new → BreaksAt
     breaks-open f x =
@@ -509,7 +589,7 @@ module _ {D : Type 0} (told_by : D → Option Contents) (failures : D → ℕ) (
 
   -- the first message of a name, whose text spells a change
   pub breaks-first : (old new : Held D) (rs : List Record) (pad : PadState) (now : ℕ) (message : Option (Session × Message)) (first : Option (Session × Sent)) (s : Session) (x : Sent) (c : Change)
-      (reply : Reply) (calls : ℕ) (image : Image) → first ≡ option_map taken_of message → first ≡ Some (s, x) → x.change ≡ Ok c → IsNormal c → (a : IsAt told_by failures stops_alone alone rs old pad)
+      (reply : Reply) (calls : ℕ) (image : Image) → first ≡ option_map taken_of message → first ≡ Some (s, x) → x.change ≡ Ok c → IsNormal c → (a : IsOpenAt told_by failures stops_alone alone rs old pad)
       → stops_alone new.disk ≡ stops_alone old.disk → (reply ≡ Err bad.NoMemory → ⊥) → Broken a.state (Accept s x.base c now) reply new
       → (stops_alone old.disk ≡ true → BrokenAlone a.state (Accept s x.base c now) reply calls image new) → BreaksOff told_by failures stops_alone alone rs pad now message calls image new
   breaks-first old new rs pad now message first s x c reply calls image e h ok n a mark heard over sure = go message (sym e ∙ h)
@@ -538,7 +618,7 @@ module _ {D : Type 0} (told_by : D → Option Contents) (failures : D → ℕ) (
 
   -- one whose text spells none
   pub breaks-unread : (old new : Held D) (rs : List Record) (pad : PadState) (now : ℕ) (message : Option (Session × Message)) (first : Option (Session × Sent)) (s : Session) (x : Sent) (why : ReadBad)
-      (calls : ℕ) (image : Image) → first ≡ option_map taken_of message → first ≡ Some (s, x) → x.change ≡ Err why → (a : IsAt told_by failures stops_alone alone rs old pad)
+      (calls : ℕ) (image : Image) → first ≡ option_map taken_of message → first ≡ Some (s, x) → x.change ≡ Err why → (a : IsOpenAt told_by failures stops_alone alone rs old pad)
       → Reopens told_by failures stops_alone alone a.state new → BreaksOff told_by failures stops_alone alone rs pad now message calls image new
   breaks-unread old new rs pad now message first s x why calls image e h err a r = breaks-nothing old new rs pad now message calls image (go message (sym e ∙ h)) a r
     where
@@ -550,7 +630,7 @@ module _ {D : Type 0} (told_by : D → Option Contents) (failures : D → ℕ) (
 
   -- none at all
   pub breaks-none : (old new : Held D) (rs : List Record) (pad : PadState) (now : ℕ) (message : Option (Session × Message)) (first : Option (Session × Sent)) (calls : ℕ) (image : Image)
-      → first ≡ option_map taken_of message → first ≡ None → (a : IsAt told_by failures stops_alone alone rs old pad)
+      → first ≡ option_map taken_of message → first ≡ None → (a : IsOpenAt told_by failures stops_alone alone rs old pad)
       → Reopens told_by failures stops_alone alone a.state new → BreaksOff told_by failures stops_alone alone rs pad now message calls image new
   breaks-none old new rs pad now message first calls image e h a r = breaks-nothing old new rs pad now message calls image (go message (sym e ∙ h)) a r
     where
@@ -562,10 +642,14 @@ module _ {D : Type 0} (told_by : D → Option Contents) (failures : D → ℕ) (
   -- ---- the pad's status
 
   pub status-there : (old new : Held D) (pad : PadState) (x : PadStatus) → IsAnswered told_by failures stops_alone alone rs old pad ReadStatus (Ok (StatusAnswer (status_of x))) new
-      → (pad.present ≡ true) × (x.head ≡ head (newest pad)) × IsAt told_by failures stops_alone alone rs new pad
+      → (pad.present ≡ true) × (x.head ≡ head (newest pad)) × IsAt told_by failures stops_alone alone rs new pad × (full_in rs pad None ≡ None)
   status-there old new pad x a =
-      let u = unless-answers (gone_fault pad) (Answers (StatusAnswer (status pad)) pad) _ a.0 in
-      (there pad.present u.0, same (sym (ap answer_of u.1) ∙ a.0), subst (λ o. IsAt told_by failures stops_alone alone (behind rs (record_in o)) new (pad_after pad o)) u.1 a.1)
+      let u = unless-answers (gone_fault pad) (Answers (StatusAnswer (status pad)) pad) _ a.0 in (
+        there pad.present u.0,
+        same (sym (ap answer_of u.1) ∙ a.0),
+        subst (λ o. IsAt told_by failures stops_alone alone (behind rs (record_in o)) new (pad_after pad o)) u.1 a.1,
+        subst (λ o. full_in rs pad (record_in o) ≡ None) u.1 a.2,
+      )
     where
       there : (b : Bool) → fault_if (not b) bad.Gone ≡ None → b ≡ true
       there true e = refl
@@ -578,12 +662,73 @@ module _ {D : Type 0} (told_by : D → Option Contents) (failures : D → ℕ) (
           inside e = cc
 
   pub status-gone : (old new : Held D) (pad : PadState) → IsAnswered told_by failures stops_alone alone rs old pad ReadStatus (Err bad.Gone) new
-      → (pad.present ≡ false) × IsAt told_by failures stops_alone alone rs new pad
-  status-gone old new pad a = (gone pad.present (unless-refuses-answer (gone_fault pad) _ _ bad.Gone a.0), a.1)
+      → (pad.present ≡ false) × IsAt told_by failures stops_alone alone rs new pad × (full_in rs pad None ≡ None)
+  status-gone old new pad a = (gone pad.present (unless-refuses-answer (gone_fault pad) _ _ bad.Gone a.0), a.1, a.2)
     where
       gone : (b : Bool) → fault_if (not b) bad.Gone ≡ Some bad.Gone → b ≡ false
       gone true e = none_some e
       gone false e = refl
+
+  -- that records nothing: it is refused for the opening alone
+  pub status-shut : (old new : Held D) (pad : PadState) (n : ℕ) → IsAnswered told_by failures stops_alone alone rs old pad ReadStatus (Err (bad.JournalFull n)) new
+      → (full_in rs pad None ≡ Some (bad.JournalFull n)) × IsAt told_by failures stops_alone alone rs new pad
+  status-shut old new pad n a = (ap (full_in rs pad) (sym (nothing (gone_fault pad))) ∙ a.1, a.0)
+    where
+      nothing : (f : Option PadBad) → record_in (unless f (Answers (StatusAnswer (status pad)) pad)) ≡ None
+      nothing None = refl
+      nothing (Some b) = refl
+
+  -- so it tells whether the pad is shut
+  pub status-open : (old new : Held D) (pad : PadState) (x : PadStatus) → IsAt told_by failures stops_alone alone rs old pad
+      → IsAnswered told_by failures stops_alone alone rs old pad ReadStatus (Ok (StatusAnswer (status_of x))) new → (false ≡ is_shut rs pad) × IsAt told_by failures stops_alone alone rs new pad
+  status-open old new pad x a r =
+      let h = status-there old new pad x r in
+      (sym (open-shut told_by failures stops_alone alone rs old pad (opens-free told_by failures stops_alone alone rs old pad None a h.3)), h.2)
+
+  pub gone-open : (old new : Held D) (pad : PadState) → IsAt told_by failures stops_alone alone rs old pad
+      → IsAnswered told_by failures stops_alone alone rs old pad ReadStatus (Err bad.Gone) new → (false ≡ is_shut rs pad) × IsAt told_by failures stops_alone alone rs new pad
+  gone-open old new pad a r =
+      let h = status-gone old new pad r in
+      (sym (open-shut told_by failures stops_alone alone rs old pad (opens-free told_by failures stops_alone alone rs old pad None a h.2)), h.1)
+
+  pub full-closed : (old new : Held D) (pad : PadState) (n : ℕ) → IsAt told_by failures stops_alone alone rs old pad
+      → IsAnswered told_by failures stops_alone alone rs old pad ReadStatus (Err (bad.JournalFull n)) new → (true ≡ is_shut rs pad) × IsAt told_by failures stops_alone alone rs new pad
+  full-closed old new pad n a r =
+      let h = status-shut old new pad n r in
+      (sym (full-shut told_by failures stops_alone alone rs old pad (bad.JournalFull n) a h.0), h.1)
+
+  -- what is shown of an opening behind a crash
+  pub opening-shown : (n : Option Name) (old new : Held D) (pad : PadState) (x : PadStatus) (epoch : ℕ) → IsAt told_by failures stops_alone alone rs old pad
+      → ((st : MachineState) → Stands told_by failures old st → st.is_open ≡ true → epoch ≡ st.pad.epoch)
+      → IsAnswered told_by failures stops_alone alone rs old pad ReadStatus (Ok (StatusAnswer (status_of x))) new
+      → (shown.Crashed epoch (Some x.head) ≡ shows_start n rs pad) × IsAt told_by failures stops_alone alone rs new pad
+  opening-shown n old new pad x epoch a e r =
+      let h = status-there old new pad x r in
+      let o = opens-free told_by failures stops_alone alone rs old pad None a h.3 in (
+        ap (λ k. shown.Crashed k (Some x.head)) (e o.state o.stands o.is_open ∙ ap (λ (p : PadState). p.epoch) o.pad)
+            ∙ ap (λ k. shown.Crashed pad.epoch (Some k)) h.1
+            ∙ sym (ap (λ b. shown.Crashed pad.epoch (if b then Some (head (newest pad)) else None)) h.0)
+            ∙ sym (ap (shows_start_if n pad) h.3),
+        h.2,
+      )
+
+  pub absent-shown : (n : Option Name) (old new : Held D) (pad : PadState) (epoch : ℕ) → IsAt told_by failures stops_alone alone rs old pad
+      → ((st : MachineState) → Stands told_by failures old st → st.is_open ≡ true → epoch ≡ st.pad.epoch)
+      → IsAnswered told_by failures stops_alone alone rs old pad ReadStatus (Err bad.Gone) new
+      → (shown.Crashed epoch None ≡ shows_start n rs pad) × IsAt told_by failures stops_alone alone rs new pad
+  absent-shown n old new pad epoch a e r =
+      let h = status-gone old new pad r in
+      let o = opens-free told_by failures stops_alone alone rs old pad None a h.2 in (
+        ap (λ k. shown.Crashed k None) (e o.state o.stands o.is_open ∙ ap (λ (p : PadState). p.epoch) o.pad)
+            ∙ sym (ap (λ b. shown.Crashed pad.epoch (if b then Some (head (newest pad)) else None)) h.0)
+            ∙ sym (ap (shows_start_if n pad) h.2),
+        h.1,
+      )
+
+  pub full-shown : (n : Option Name) (old new : Held D) (pad : PadState) (k : ℕ)
+      → IsAnswered told_by failures stops_alone alone rs old pad ReadStatus (Err (bad.JournalFull k)) new
+      → (pad_refuses verb.Crash n (bad.JournalFull k) ≡ shows_start n rs pad) × IsAt told_by failures stops_alone alone rs new pad
+  full-shown n old new pad k r = let h = status-shut old new pad k r in (sym (ap (shows_start_if n pad) h.0), h.1)
 
   -- ---- the world
 
@@ -605,37 +750,85 @@ module _ {D : Type 0} (told_by : D → Option Contents) (failures : D → ℕ) (
   }
 
   -- what an opening shows
-  abbrev pub IsOpening : List Record → PadState → Held D → Result Shown WorldBad → Type 0
-  IsOpening qs pad new r = MatchResult r (λ x. (x ≡ shows_opening pad) × IsAt told_by failures stops_alone alone qs new pad) IsFailure
+  abbrev pub IsOpening : Option Name → List Record → PadState → Held D → Result Shown WorldBad → Type 0
+  IsOpening n qs pad new r = MatchResult r (λ x. (x ≡ shows_start n qs pad) × IsAt told_by failures stops_alone alone qs new pad) IsFailure
+
+  -- the name that a crash comes into
+  abbrev name-of : Option StopAt → Option Name
+  name-of None = None
+  name-of (Some at) = Some at.name
+
+  refuses-stop : (at : Option StopAt) (b : PadBad) → no_room (told.Stop at) b ≡ Some (pad_refuses verb.Crash (name-of at) b)
+  refuses-stop None b = refl
+  refuses-stop (Some at) b = refl
+
+  -- a crash was started behind, and that is shown
+  starts-comes : (old new : World D) (mid : Held D) (w v : WorldState) (ks : Kepts) (now : ℕ) (at : Option StopAt) (kept : Bool) (qs : List Record) (r : Result Shown WorldBad)
+      → is_known w (told.Stop at) ≡ true → (alone ≡ true → Decides rs w now (told.Stop at) kept) → v ≡ stops w now (stopped_name at) kept → v.id ≡ w.id → v.actors ≡ w.actors → v.pad.limits ≡ w.pad.limits
+      → opening v.pad ≡ opening w.pad → qs ≡ journal_left rs w now kept at
+      → StandsFor told_by failures stops_alone alone rs old w ks → Starts told_by failures stops_alone alone qs v.pad mid
+      → ((ps : List Record) (pad : PadState) → IsAt told_by failures stops_alone alone ps mid pad → IsOpening (name-of at) ps pad new.machine r)
+      → new.id ≡ old.id → ((q : Name) → found new.actors q ≡ option_map kept_cut_off (found old.actors q))
+      → Comes told_by failures stops_alone alone rs w ks now (told.Stop at) new r
+  starts-comes old new mid w v ks now at kept qs r known d is j e l o left s starts shows i cut = go starts
+    where
+      alike : unopened qs v.pad ≡ unopened (journal_left rs w now kept at) w.pad
+      alike = unopened-alike qs v.pad w.pad l ∙ ap (λ q. unopened q w.pad) left
+
+      stands : (ps : List Record) → IsAt told_by failures stops_alone alone ps new.machine (reopened v.pad)
+          → StandsFor told_by failures stops_alone alone ps new (crashed (stops w now (stopped_name at) kept)) (λ n. kept_lost (ks n))
+      stands ps m = subst (λ x. StandsFor told_by failures stops_alone alone ps new (crashed x) (λ n. kept_lost (ks n))) is (crashed-stands ps old new w v ks s m j e i cut)
+
+      opened : (unopened qs v.pad ≡ None) × IsOpenAt told_by failures stops_alone alone (qs ++ opening v.pad ∷ []) mid (reopened v.pad) → (r : Result Shown WorldBad)
+          → IsOpening (name-of at) (qs ++ opening v.pad ∷ []) (reopened v.pad) new.machine r → Comes told_by failures stops_alone alone rs w ks now (told.Stop at) new r
+      opened x (Ok y) h = (
+        known,
+        refl,
+        IsEvent kept
+            (h.0 ∙ ap (shows_start_if (name-of at) (reopened v.pad)) (open-full told_by failures stops_alone alone (qs ++ opening v.pad ∷ []) mid (reopened v.pad) None x.1)
+            ∙ ap (λ (z : WorldState). shows_opening (crashed z).pad) is)
+            (ap (shows_full (told.Stop at)) (sym alike ∙ x.0)) d
+            (subst (λ q. StandsFor told_by failures stops_alone alone q new (crashed (stops w now (stopped_name at) kept)) (λ n. kept_lost (ks n)))
+            (ap (λ q. q ++ opening v.pad ∷ []) left ∙ ap (λ q. journal_left rs w now kept at ++ q ∷ []) o) (stands (qs ++ opening v.pad ∷ []) h.1)),
+      )
+      opened x (Err b) f = failed-comes w ks now (told.Stop at) new b f
+
+      shut : (n : ℕ) × (unopened qs v.pad ≡ Some (bad.JournalFull n)) × IsShutAt told_by failures stops_alone alone qs mid (reopened v.pad) → (r : Result Shown WorldBad)
+          → IsOpening (name-of at) qs (reopened v.pad) new.machine r → Comes told_by failures stops_alone alone rs w ks now (told.Stop at) new r
+      shut x (Ok y) h =
+          let same : full_in qs (reopened v.pad) None ≡ Some (bad.JournalFull x.0) =
+          shut-full told_by failures stops_alone alone qs mid (reopened v.pad) None x.2 ∙ sym x.2.full ∙ unopened-alike qs (reopened v.pad) v.pad refl ∙ x.1 in (
+            known,
+            refl,
+            HasNoRoom kept
+                (ap (shows_full (told.Stop at)) (sym alike ∙ x.1) ∙ refuses-stop at (bad.JournalFull x.0) ∙ ap Some (sym (h.0 ∙ ap (shows_start_if (name-of at) (reopened v.pad)) same))) d
+                (subst (λ q. StandsFor told_by failures stops_alone alone q new (crashed (stops w now (stopped_name at) kept)) (λ n. kept_lost (ks n))) left (stands qs h.1)),
+          )
+      shut x (Err b) f = failed-comes w ks now (told.Stop at) new b f
+
+      go : Starts told_by failures stops_alone alone qs v.pad mid → Comes told_by failures stops_alone alone rs w ks now (told.Stop at) new r
+      go (inl x) = opened x r (shows (qs ++ opening v.pad ∷ []) (reopened v.pad) (inl x.1))
+      go (inr x) = shut x r (shows qs (reopened v.pad) (inr x.2))
 
   pub crash-comes : (old new : World D) (mid : Held D) (w : WorldState) (ks : Kepts) (now : ℕ) (r : Result Shown WorldBad) → StandsFor told_by failures stops_alone alone rs old w ks
-      → ((st : MachineState) → IsKeptState st → Stands told_by failures old.machine st → stops_alone old.machine.disk ≡ alone → Reopens told_by failures stops_alone alone st mid)
-      → ((qs : List Record) (pad : PadState) → IsAt told_by failures stops_alone alone qs mid pad → IsOpening qs pad new.machine r)
+      → Starts told_by failures stops_alone alone rs w.pad mid
+      → ((qs : List Record) (pad : PadState) → IsAt told_by failures stops_alone alone qs mid pad → IsOpening None qs pad new.machine r)
       → new.id ≡ old.id → ((q : Name) → found new.actors q ≡ option_map kept_cut_off (found old.actors q))
       → Comes told_by failures stops_alone alone rs w ks now (told.Stop None) new r
-  crash-comes old new mid w ks now r s opens shows i cut = go r (shows qs (reopened w.pad) m)
-    where
-      a : IsAt told_by failures stops_alone alone rs old.machine w.pad
-      a = s.machine
-
-      qs : List Record
-      qs = rs ++ opening w.pad ∷ []
-
-      m : IsAt told_by failures stops_alone alone qs mid (reopened w.pad)
-      m = opens-whole told_by failures stops_alone alone old.machine mid rs w.pad a (opens a.state a.kept a.stands a.mark)
-
-      go : (r : Result Shown WorldBad) → IsOpening qs (reopened w.pad) new.machine r → Comes told_by failures stops_alone alone rs w ks now (told.Stop None) new r
-      go (Ok x) h = (refl, refl, IsEvent true h.0 refl (λ _. tt) (crashed-stands qs old new w w ks s h.1 refl refl i cut))
-      go (Err b) f = failed-comes w ks now (told.Stop None) new b f
+  crash-comes old new mid w ks now r s starts shows i cut =
+      starts-comes old new mid w w ks now None true rs r refl (λ _. tt) refl refl refl refl refl refl s starts shows i cut
 
   pub stop-comes : (old new : World D) (last : Held D) (slots : List Slot) (w : WorldState) (ks : Kepts) (now : ℕ) (at : StopAt) (x : Option (Session × Sent)) (r : Result Shown WorldBad)
       → StandsFor told_by failures stops_alone alone rs old w ks → FindsFirst old.actors at.name (Ok x) slots
       → ((qs : List Record) (pad : PadState) (first : Option (Session × Message)) → x ≡ option_map taken_of first → IsAt told_by failures stops_alone alone qs old.machine pad
       → BreaksOff told_by failures stops_alone alone qs pad now first at.calls at.image last)
-      → ((qs : List Record) (pad : PadState) → IsAt told_by failures stops_alone alone qs last pad → IsOpening qs pad new.machine r)
+      → ((qs : List Record) (pad : PadState) → IsAt told_by failures stops_alone alone qs last pad → IsOpening (Some at.name) qs pad new.machine r)
       → new.id ≡ old.id → ((q : Name) → found new.actors q ≡ option_map kept_cut_off (found slots q))
       → Comes told_by failures stops_alone alone rs w ks now (told.Stop (Some at)) new r
-  stop-comes old new last slots w ks now at x r s finds breaks shows i cut = go r (shows qs (reopened v.pad) m)
+  stop-comes old new last slots w ks now at x r s finds breaks shows i cut =
+      starts-comes old new last w v ks now (Some at) off.0 qs r (known (w.actors at.name) is) off.2 refl is-v.id is-v.actors (ap (λ (p : PadState). p.limits) is-v.pad ∙ limits-by (next_up (w.actors at.name)) off.0)
+      (ap opening is-v.pad ∙ opening-by (next_up (w.actors at.name)) off.0) refl s (subst (λ p. Starts told_by failures stops_alone alone qs p last) (sym is-v.pad) off.1) shows i
+      (cut-after old.actors slots new.actors at.name finds.0 finds.1 finds.2 one.cut finds.4 cut)
     where
       is : actor_of (w.actors at.name) (ks at.name) ≡ Some finds.0
       is = sym (s.actors at.name) ∙ finds.2
@@ -655,22 +848,18 @@ module _ {D : Type 0} (told_by : D → Option Contents) (failures : D → ℕ) (
       qs : List Record
       qs = journal_broken rs w.pad now (next_up (w.actors at.name)) off.0
 
-      m : IsAt told_by failures stops_alone alone qs last (reopened v.pad)
-      m = subst (λ p. IsAt told_by failures stops_alone alone qs last (reopened p)) (sym is-v.pad) off.1
+      limits-by : (y : Option (Session × Message)) (b : Bool) → (broken_by w.pad now y b).limits ≡ w.pad.limits
+      limits-by None b = refl
+      limits-by (Some y) b = limits-off w.pad y.0 now y.1 b
+
+      opening-by : (y : Option (Session × Message)) (b : Bool) → opening (broken_by w.pad now y b) ≡ opening w.pad
+      opening-by None b = refl
+      opening-by (Some y) b = opening-off w.pad y.0 now y.1 b
 
       known : (z : AnActor) → actor_of z (ks at.name) ≡ Some finds.0 → not (is_nobody z) ≡ true
       known Nobody e = none_some e
       known (Guest c) e = refl
       known (Named m) e = refl
-
-      go : (r : Result Shown WorldBad) → IsOpening qs (reopened v.pad) new.machine r → Comes told_by failures stops_alone alone rs w ks now (told.Stop (Some at)) new r
-      go (Ok y) h = (
-        known (w.actors at.name) is,
-        refl,
-        IsEvent off.0 h.0 refl off.2
-            (crashed-stands qs old new w v ks s h.1 is-v.id is-v.actors i (cut-after old.actors slots new.actors at.name finds.0 finds.1 finds.2 one.cut finds.4 cut)),
-      )
-      go (Err f) h = failed-comes w ks now (told.Stop (Some at)) new f h
 
   -- nobody has the name
   pub stop-unknown : (old new : World D) (w : WorldState) (ks : Kepts) (now : ℕ) (at : StopAt) → StandsFor told_by failures stops_alone alone rs old w ks → found old.actors at.name ≡ None

@@ -1,5 +1,5 @@
 -- Why an event ends a world.
-use Rattle.std.proofs.Common.{◌≡◌, ℕ, ◌≤◌, Bool, true, false, List, [], ◌∷◌, Option, Some, None, Result, Ok, Err, if◌then◌else◌, refl, sym, ap, ◌∙◌, subst, arith}
+use Rattle.std.proofs.Common.{◌≡◌, ℕ, ◌≤◌, Bool, true, false, List, [], ◌∷◌, Option, Some, None, Result, Ok, Err, inl, inr, if◌then◌else◌, refl, sym, ap, ◌∙◌, subst, arith}
 use Rattle.std.specs.Option.{option_map}
 use Rattle.std.specs.Prelude.{IfErr, MatchResult}
 use Rattle.ep_units.specs.declared.session.Session.{Session}
@@ -46,14 +46,16 @@ use Rattle.ep_world.specs.declared.taking.Took.{Took}
 use Rattle.ep_world.specs.declared.taking.Took.TheVariants as took
 use Rattle.ep_world.specs.declared.world.World.{World}
 use Rattle.ep_world.specs.Conns.{sent_of}
-use Rattle.ep_world.specs.Failing.{IsCaused, failed}
+use Rattle.ep_world.specs.Failing.{IsCaused, failed, failed_opening}
 use Rattle.ep_world.specs.Journal.{IsOpeningFull, behind, full_by, kept_record, record_taken}
-use Rattle.ep_world.specs.Standing.{IsAt, IsEnded, StandsFor}
+use Rattle.ep_world.specs.Counting.{Counts}
+use Rattle.ep_world.specs.Standing.{IsAt, IsEnded, IsOpenAt, StandsFor}
 use Rattle.ep_world.specs.Stopping.{BreaksNot, FindsFirst, IsUnopened, broken_off, taken_if, taken_of}
 use Rattle.ep_world.specs.Taking.{Brings}
 use Rattle.ep_world.proofs.Calls.{MakesMarked, answered}
-use Rattle.ep_world.proofs.Counting.{ok-counts, reads-fails, risen-from, sleeps-full, sleeps-store, caused-from, text-reads}
-use Rattle.ep_world.proofs.Crashes.{Broken, awake, opening-off, settled-records, settled-whole, spelled, status-there, step-settles, takes-one}
+use Rattle.ep_world.proofs.Counting.{ok-counts, reads-fails, risen-from, sleeps-full, sleeps-store, caused-from}
+use Rattle.ep_world.proofs.Crashes.{Broken, awake, limits-off, opening-off, spelled, status-there, step-settles, takes-one}
+use Rattle.ep_world.proofs.Shut.{settled-records, settled-whole}
 
 -- ---- counts of faults
 
@@ -93,21 +95,6 @@ full-opening st kept rs pad n r p e = subst (λ q. IsOpeningFull q pad n) r (sub
     same true e = e
     same false e = e
 
--- the limit of a pad after a take that was broken off is that of the pad before
-limits-off : (pad : PadState) (s : Session) (now : ℕ) (msg : Message) (b : Bool) → (broken_off pad s now msg b).limits ≡ pad.limits
-limits-off pad s now msg false = refl
-limits-off pad s now msg true = go (reason pad s msg)
-  where
-    one-of : (b : Bool) (x y : PadState) → x.limits ≡ pad.limits → y.limits ≡ pad.limits → (if b then x else y).limits ≡ pad.limits
-    one-of true x y e f = e
-    one-of false x y e f = f
-
-    go : (w : Option AReason) → (taken_if pad s now msg w).limits ≡ pad.limits
-    go None =
-        let e = at_head pad msg.base msg.change.edit in
-        one-of (is_identity e) (with_nops pad (nop_by (by_session pad s now) (head (newest pad)) ∷ [])) (with_revs pad (step_revs (by_session pad s now) e (head_doc (newest pad)))) refl refl
-    go (Some why) = refl
-
 full-off : (rs : List Record) (pad : PadState) (s : Session) (now : ℕ) (msg : Message) (b : Bool) (n : ℕ) → IsOpeningFull rs (broken_off pad s now msg b) n → IsOpeningFull rs pad n
 full-off rs pad s now msg b n e =
     ap (λ (l : Limits). full_by rs (record pad { limits = l }) (Some (opening pad))) (sym (limits-off pad s now msg b))
@@ -116,28 +103,32 @@ full-off rs pad s now msg b n e =
 module _ {D : Type 0} (told_by : D → Option Contents) (failures : D → ℕ) (stops_alone : D → Bool) (alone : Bool) where
   -- ---- a machine that is started again
 
-  pub reopened-later : (rs : List Record) (old new : Held D) (pad : PadState) (a : IsAt told_by failures stops_alone alone rs old pad)
+  pub reopened-later : (rs : List Record) (old new : Held D) (pad : PadState) (a : IsOpenAt told_by failures stops_alone alone rs old pad)
       → (mid : MachineState) × IsWoken (stopped a.state) mid × Stands told_by failures new mid → failures old.disk ≤ failures new.disk
   reopened-later rs old new pad a x =
       subst (λ (k : ℕ). failures old.disk ≤ k) x.2.faults (subst (λ (k : ℕ). k ≤ x.0.faults) a.stands.faults (woken-later (stopped a.state) x.0 x.1))
 
-  pub unopened : (rs : List Record) (old new : Held D) (pad : PadState) (b : PadBad) (a : IsAt told_by failures stops_alone alone rs old pad)
-      → (next : MachineState) × Sleeps (stopped a.state) b next × Stands told_by failures new next → IsUnopened (failures old.disk) (failures new.disk) rs pad (failed b)
-  unopened rs old new pad (bad.Store n) a x =
+  -- nor where it stays closed
+  pub asleep-later : (rs : List Record) (old new : Held D) (pad : PadState) (n : ℕ) (a : IsOpenAt told_by failures stops_alone alone rs old pad)
+      → (next : MachineState) × Sleeps (stopped a.state) (bad.JournalFull n) next × Stands told_by failures new next → failures old.disk ≤ failures new.disk
+  asleep-later rs old new pad n a x =
+      let f = sleeps-full (stopped a.state) x.0 n x.1 in
+      subst (λ (k : ℕ). failures old.disk ≤ k) x.2.faults (subst (λ (k : ℕ). k ≤ x.0.faults) (same f.0 ∙ a.stands.faults) f.2.1)
+    where
+      same : (k : Bool) → (settled k (stopped a.state)).faults ≡ a.state.faults
+      same true = refl
+      same false = refl
+
+  pub unopened-caused : (rs : List Record) (old new : Held D) (pad : PadState) (b : PadBad) (a : IsOpenAt told_by failures stops_alone alone rs old pad)
+      → (next : MachineState) × Sleeps (stopped a.state) b next × Stands told_by failures new next → IsCaused (failures old.disk) (failures new.disk) (failed b)
+  unopened-caused rs old new pad (bad.Store n) a x =
       subst (λ (k : ℕ). HasRisenTo (failures old.disk) k n) x.2.faults
       (subst (λ (k : ℕ). HasRisenTo k x.0.faults n) a.stands.faults (sleeps-store (stopped a.state) x.0 n x.1))
-  unopened rs old new pad (bad.JournalFull n) a x =
-      let f = sleeps-full (stopped a.state) x.0 n x.1 in
-      let p = a.kept.whole a.is_open in
-      full-opening a.state f.0 rs pad n (settled-records f.0 a.state p ∙ a.records) (whole f.0 p) f.1
-    where
-      whole : (k : Bool) → a.state.pending ≡ [] → (settled k a.state).pad ≡ pad
-      whole k p = settled-whole k a.state p ∙ a.pad
-  unopened rs old new pad b a x = tt
+  unopened-caused rs old new pad b a x = tt
 
   -- ---- a take that is broken off
 
-  pub broken-later : (rs : List Record) (old new : Held D) (pad : PadState) (e : Entry) (reply : Reply) (a : IsAt told_by failures stops_alone alone rs old pad)
+  pub broken-later : (rs : List Record) (old new : Held D) (pad : PadState) (e : Entry) (reply : Reply) (a : IsOpenAt told_by failures stops_alone alone rs old pad)
       → Broken told_by failures stops_alone alone a.state e reply new → failures old.disk ≤ failures new.disk
   broken-later rs old new pad e reply a x =
       let same = awake told_by failures stops_alone alone a.state x.0 a.is_open x.3 in
@@ -152,7 +143,7 @@ module _ {D : Type 0} (told_by : D → Option Contents) (failures : D → ℕ) (
     FailsThen b = (kept : Bool) × IsUnopened before (failures new.disk) (behind st.records (kept_record kept (record_taken st.pad now (Some (s, msg))))) st.pad b
 
     behind-fails : (b : PadBad) (mid next last : MachineState) (reply : Reply) → IsWoken st mid → IsStep size mid (Accept s msg.base msg.change now) reply next
-        → Sleeps (stopped next) b last → Stands told_by failures new last → FailsThen (failed b)
+        → Sleeps (stopped next) b last → Stands told_by failures new last → FailsThen (failed_opening b)
     behind-fails b mid next last reply w step z stands = go b z
       where
         is : IsOpenStep size st (Accept s msg.base msg.change now) reply next
@@ -160,7 +151,7 @@ module _ {D : Type 0} (told_by : D → Option Contents) (failures : D → ℕ) (
             subst (λ t. IsStepAs t size st (Accept s msg.base msg.change now) reply next) o
             (subst (λ m. IsStep size m (Accept s msg.base msg.change now) reply next) (awake told_by failures stops_alone alone st mid o w) step)
 
-        go : (b : PadBad) → Sleeps (stopped next) b last → FailsThen (failed b)
+        go : (b : PadBad) → Sleeps (stopped next) b last → FailsThen (failed_opening b)
         go (bad.Store n) z =
             let l = step-later st next (Accept s msg.base msg.change now) reply is in
             let r = risen-from st.faults next.faults last.faults n l (sleeps-store (stopped next) last n z) in
@@ -172,21 +163,21 @@ module _ {D : Type 0} (told_by : D → Option Contents) (failures : D → ℕ) (
             (t.0, full-off qs st.pad s now msg t.0 n (full-opening next f.0 qs (broken_off st.pad s now msg t.0) n t.2 t.1 f.1))
         go b z = (false, tt)
 
-    stays-fails : (b : PadBad) → (last : MachineState) × StaysStopped st (Accept s msg.base msg.change now) b last × Stands told_by failures new last → FailsThen (failed b)
+    stays-fails : (b : PadBad) → (last : MachineState) × StaysStopped st (Accept s msg.base msg.change now) b last × Stands told_by failures new last → FailsThen (failed_opening b)
     stays-fails b x = go x.1
       where
-        go : StaysStopped st (Accept s msg.base msg.change now) b x.0 → FailsThen (failed b)
+        go : StaysStopped st (Accept s msg.base msg.change now) b x.0 → FailsThen (failed_opening b)
         go (Before z) = absurd (let e : true ≡ false = sym o ∙ z.0 in cc)
         go (Behind mid next reply w step z) = behind-fails b mid next x.0 reply w step z x.2
 
   pub breaks-fails : (rs : List Record) (old new : Held D) (pad : PadState) (now : ℕ) (message : Option (Session × Message)) (first : Option (Session × Sent)) (s : Session) (x : Sent) (c : Change) (b : PadBad)
-      → first ≡ option_map taken_of message → first ≡ Some (s, x) → x.change ≡ Ok c → IsNormal c → (a : IsAt told_by failures stops_alone alone rs old pad)
+      → first ≡ option_map taken_of message → first ≡ Some (s, x) → x.change ≡ Ok c → IsNormal c → (a : IsOpenAt told_by failures stops_alone alone rs old pad)
       → (stops_alone old.disk ≡ true → (last : MachineState) × StaysStopped a.state (Accept s x.base c now) b last × Stands told_by failures new last)
-      → BreaksNot alone rs pad now message (failures old.disk) (failures new.disk) (failed b)
+      → BreaksNot alone rs pad now message (failures old.disk) (failures new.disk) (failed_opening b)
   breaks-fails rs old new pad now message first s x c b e h ok n a stays = λ t. go message (sym e ∙ h) t
     where
       go : (m : Option (Session × Message)) → option_map taken_of m ≡ Some (s, x) → alone ≡ true
-          → (kept : Bool) × IsUnopened (failures old.disk) (failures new.disk) (behind rs (kept_record kept (record_taken pad now m))) pad (failed b)
+          → (kept : Bool) × IsUnopened (failures old.disk) (failures new.disk) (behind rs (kept_record kept (record_taken pad now m))) pad (failed_opening b)
       go None q t = none_some q
       go (Some y) q t =
           let p = some_same q in
@@ -201,23 +192,23 @@ module _ {D : Type 0} (told_by : D → Option Contents) (failures : D → ℕ) (
           let f = stays-fails new a.state y.0 now y.1 edit a.kept a.is_open (failures old.disk) a.stands.faults b
           (last.0, subst (λ z. StaysStopped a.state z b last.0) entry last.1, last.2) in (
             f.0,
-            subst (λ r. IsUnopened (failures old.disk) (failures new.disk) (behind r (kept_record f.0 (record_taken pad now (Some y)))) pad (failed b)) a.records
-                (subst (λ p. IsUnopened (failures old.disk) (failures new.disk) (behind a.state.records (kept_record f.0 (record_taken p now (Some y)))) p (failed b)) a.pad f.1),
+            subst (λ r. IsUnopened (failures old.disk) (failures new.disk) (behind r (kept_record f.0 (record_taken pad now (Some y)))) pad (failed_opening b)) a.records
+                (subst (λ p. IsUnopened (failures old.disk) (failures new.disk) (behind a.state.records (kept_record f.0 (record_taken p now (Some y)))) p (failed_opening b)) a.pad f.1),
           )
 
   -- where the machine is only started again, nothing of a take is kept
-  pub unopened-breaks : (rs : List Record) (pad : PadState) (now : ℕ) (message : Option (Session × Message)) (before after : ℕ) (b : WorldBad) → IsUnopened before after rs pad b
+  pub unopened-breaks : (rs : List Record) (pad : PadState) (now : ℕ) (message : Option (Session × Message)) (before after : ℕ) (b : WorldBad) → IsCaused before after b
       → BreaksNot alone rs pad now message before after b
-  unopened-breaks rs pad now message before after b u = λ _. (false, u)
+  unopened-breaks rs pad now message before after b u = λ _. (false, go b u)
+    where
+      go : (b : WorldBad) → IsCaused before after b → IsUnopened before after rs pad b
+      go (world_bad.Store n) u = u
+      go (world_bad.Full n) u = absurd u
+      go world_bad.Unknown u = tt
+      go world_bad.NoText u = tt
+      go world_bad.NoMemory u = tt
 
   -- ---- of the world
-
-  pub crash-ends : (rs : List Record) (w : WorldState) (now before after : ℕ) (b : WorldBad) → IsUnopened before after rs w.pad b → IsEnded alone rs w now (told.Stop None) before after b
-  crash-ends rs w now before after (world_bad.Store n) h = h
-  crash-ends rs w now before after (world_bad.Full n) h = h
-  crash-ends rs w now before after world_bad.Unknown h = tt
-  crash-ends rs w now before after world_bad.NoText h = tt
-  crash-ends rs w now before after world_bad.NoMemory h = tt
 
   pub stop-ends : (rs : List Record) (w : WorldState) (now : ℕ) (at : StopAt) (before after : ℕ) (b : WorldBad) → BreaksNot alone rs w.pad now (next_up (w.actors at.name)) before after b
       → IsEnded alone rs w now (told.Stop (Some at)) before after b
@@ -266,7 +257,7 @@ module _ {D : Type 0} (told_by : D → Option Contents) (failures : D → ℕ) (
       let first = ok-counts told_by failures stops_alone alone rs old mid pad ReadStatus (λ y. StatusAnswer (status_of y)) r st a reads is in
       let m = status-at rs old mid pad st r a reads is in
       caused-from (failures old.disk) (failures mid.disk) (failures new.disk) (failed b) first
-      (reads-fails told_by failures stops_alone alone rs mid new pad (ReadText None) TextAnswer x b (text-reads pad None) m texts iz)
+      (reads-fails told_by failures stops_alone alone rs mid new pad (ReadText None) TextAnswer x b m texts iz)
 
   -- ---- a message that was brought
 
@@ -275,7 +266,9 @@ module _ {D : Type 0} (told_by : D → Option Contents) (failures : D → ℕ) (
       → (qs : List Record) × (next : PadState) × IsAt told_by failures stops_alone alone qs new next
   brings-at rs pad s msg now new (took.Made c) b = (_, _, b.2)
   brings-at rs pad s msg now new (took.Refused x) b = (rs, pad, b.3)
-  brings-at rs pad s msg now new (took.NoRoom k) b = (rs, pad, b.1)
+  brings-at rs pad s msg now new (took.NoRoom k) (inl b) = (rs, pad, b.1)
+  brings-at rs pad s msg now new (took.NoRoom k) (inr b) = (rs, pad, b.2)
+  brings-at rs pad s msg now new (took.Shut k) b = absurd b
 
 -- what isn't heard fails for want of memory alone
 pub unheard-counts : (alone : Bool) (rs : List Record) (pad : PadState) (now : ℕ) (message : Option (Session × Message)) (before after : ℕ) (r : Result (Unit {0}) WorldBad) → before ≤ after
@@ -285,7 +278,20 @@ unheard-counts alone rs pad now message before after (Err b) l f = λ _. (false,
 
 module _ {D : Type 0} (told_by : D → Option Contents) (failures : D → ℕ) (stops_alone : D → Bool) (alone : Bool) where
   -- a machine that is only started again
-  pub breaks-counts : (rs : List Record) (pad : PadState) (now : ℕ) (message : Option (Session × Message)) (before after : ℕ) (r : Result (Unit {0}) WorldBad)
-      → MatchResult r (λ _. before ≤ after) (IsUnopened before after rs pad) → MatchResult r (λ _. before ≤ after) (BreaksNot alone rs pad now message before after)
+  pub breaks-counts : {A : Type 0} (rs : List Record) (pad : PadState) (now : ℕ) (message : Option (Session × Message)) (before after : ℕ) (r : Result A WorldBad)
+      → Counts before after r → MatchResult r (λ _. before ≤ after) (BreaksNot alone rs pad now message before after)
   breaks-counts rs pad now message before after (Ok u) h = h
   breaks-counts rs pad now message before after (Err b) h = unopened-breaks told_by failures stops_alone alone rs pad now message before after b h
+
+  -- one that was asked first whether it is shut
+  pub breaks-from : (rs : List Record) (pad : PadState) (now : ℕ) (message : Option (Session × Message)) (a b c : ℕ) (r : Result (Unit {0}) WorldBad) → a ≤ b
+      → MatchResult r (λ _. b ≤ c) (BreaksNot alone rs pad now message b c) → MatchResult r (λ _. a ≤ c) (BreaksNot alone rs pad now message a c)
+  breaks-from rs pad now message a b c (Ok u) h x = omega (arith, h, x)
+  breaks-from rs pad now message a b c (Err e) h x = λ t. ((x t).0, go e (behind rs (kept_record (x t).0 (record_taken pad now message))) (x t).1)
+    where
+      go : (e : WorldBad) (qs : List Record) → IsUnopened b c qs pad e → IsUnopened a c qs pad e
+      go (world_bad.Store n) qs u = risen-from a b c n h u
+      go (world_bad.Full n) qs u = u
+      go world_bad.Unknown qs u = tt
+      go world_bad.NoText qs u = tt
+      go world_bad.NoMemory qs u = tt

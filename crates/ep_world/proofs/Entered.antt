@@ -127,7 +127,9 @@ module _ {D : Type 0} (told_by : D → Option Contents) (failures : D → ℕ) (
     after = λ rs. refl;
     decides = λ rs. tt;
     same = refl;
-    full = (refl, refl);
+    fulls = λ rs. refl;
+    left = λ rs. refl;
+    full = λ rs. (refl, refl);
   }
     where
       fault : (b : PadBad) → outcome w.pad (Login (grant_of w n false) now) ≡ Refuses b → login_fault w.pad (grant_of w n false) ≡ Some b
@@ -185,7 +187,9 @@ module _ {D : Type 0} (told_by : D → Option Contents) (failures : D → ℕ) (
     after = λ rs. refl;
     decides = λ rs. tt;
     same = refl;
-    full = (refl, refl);
+    fulls = λ rs. refl;
+    left = λ rs. refl;
+    full = λ rs. (refl, refl);
   }
     where
       fault : (b : PadBad) → outcome w.pad (Login (grant_of w n r) now) ≡ Refuses b → login_fault w.pad (grant_of w n r) ≡ Some b

@@ -16,7 +16,7 @@ use Rattle.ep_event.specs.declared.shown.Shown.{Shown}
 use Rattle.ep_world.specs.declared.bad.WorldBad.TheVariants as world_bad
 use Rattle.ep_world.specs.declared.world.World.{World}
 use Rattle.ep_world.specs.Events.{event_at, happened, has_text, is_known, kept_happened}
-use Rattle.ep_world.specs.Journal.{begun, journal_after}
+use Rattle.ep_world.specs.Journal.{begun, journal_after, journal_full}
 use Rattle.ep_world.specs.Leading.{Becomes, BecomesIf, IsScheduled, Lead, Stays}
 use Rattle.ep_world.specs.Standing.{IsPlayed, IsRun, Plays, StandsFor, overfull_at}
 use Rattle.ep_world.specs.Standing.IsPlayed.{IsEvent, HasNoRoom}
@@ -110,13 +110,14 @@ module _ {D : Type 0} (told_by : D → Option Contents) (failures : D → ℕ) (
         run = more w ks o r;
         stands = s;
       }
-  played new first w ks rs es e shown l r p (HasNoRoom h s) =
-      let o = overfull_at e.1 in
+  played new first w ks rs es e shown l r p (HasNoRoom kept h d s) =
+      let o = overfull_at rs w e.0 kept e.1 in
+      let qs = journal_full rs w e.0 kept e.1 in
       record {
-        journal = rs;
+        journal = qs;
         world = happened w o;
         kepts = kept_happened w ks o;
-        leads = leads-more alone begun first nobodies es rs w ks e o rs l (becomes-played alone rs w e o rs p (inr (refl, subst IsSome (sym h) refl, refl)));
+        leads = leads-more alone begun first nobodies es rs w ks e o qs l (becomes-played alone rs w e o qs p (inr (kept, refl, subst IsSome (sym h) refl, d, refl)));
         run = more w ks o r;
         stands = s;
       }

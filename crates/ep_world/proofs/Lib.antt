@@ -1,3 +1,5 @@
+pub mod Plain
+pub mod Shut
 pub mod Calls
 pub mod Journal
 pub mod Seating
@@ -20,3 +22,4 @@ pub mod Lates
 pub mod Counting
 pub mod Refusing
 pub mod Ending
+pub mod Lengths

@@ -55,6 +55,7 @@ use Rattle.ep_world.specs.Telling.{ended_by, pushed_by, pushed_next, pushed_rev,
 use Rattle.ep_world.proofs.Brought.{unless-answers, unless-refuses-answer}
 use Rattle.ep_world.proofs.Conns.{conn-closing, conn-spends, conn-tells}
 use Rattle.ep_world.proofs.Calls.{answered-once}
+use Rattle.ep_world.proofs.Shut.{at-kept, at-stands, at-state}
 use Rattle.ep_world.proofs.Seating.{is-named, lent, put-actors-kept, put-same}
 use Rattle.ep_world.proofs.Turns.{IsTurn, keeps}
 use Rattle.ep_history.specs.declared.record.Record.{Record}
@@ -317,8 +318,9 @@ module _ {D : Type 0} (told_by : D → Option Contents) (failures : D → ℕ) (
       → (next : MachineState) × IsStepOfFirst st c.session c.sent c.nops 1 r next × Stands told_by failures new next × (stops_alone new.disk ≡ stops_alone old.disk)
 
   asked : (old new : Held D) (pad : PadState) (c i : KeptConn) (r q : Result Fetched PadBad) → i ≡ c → r ≡ q → (a : IsAt told_by failures stops_alone alone rs old pad) → FetchesNext old i r new
-      → (next : MachineState) × IsStepOfFirst a.state c.session c.sent c.nops 1 q next × Stands told_by failures new next × (stops_alone new.disk ≡ stops_alone old.disk)
-  asked old new pad c i r q e is a makes = subst (λ (x : KeptConn × Result Fetched PadBad). FetchesNext old x.0 x.1 new) (λ j. (e j, is j)) makes a.state a.kept a.stands
+      → (next : MachineState) × IsStepOfFirst (at-state told_by failures stops_alone alone rs old pad a) c.session c.sent c.nops 1 q next × Stands told_by failures new next × (stops_alone new.disk ≡ stops_alone old.disk)
+  asked old new pad c i r q e is a makes = subst (λ (x : KeptConn × Result Fetched PadBad). FetchesNext old x.0 x.1 new) (λ j. (e j, is j)) makes (at-state told_by failures stops_alone alone rs old pad a)
+      (at-kept told_by failures stops_alone alone rs old pad a) (at-stands told_by failures stops_alone alone rs old pad a)
 
   pub tells-fetched : (old new : Held D) (pad : PadState) (c i d : KeptConn) (r : Result Fetched PadBad) (x : Fetched) (p : Pushed) → i ≡ c → IsAt told_by failures stops_alone alone rs old pad → FetchesNext old i r new
       → r ≡ Ok x → p ≡ pushed_next c.sent x.nops.items x.revs.items → d ≡ told_next x.nops.items x.revs.items c → TellsOf told_by failures stops_alone alone rs pad c new d p

@@ -3,17 +3,14 @@ use Rattle.std.proofs.Common.{◌≡◌, ℕ, Bool, true, false, List, [], ◌�
 use Rattle.std.specs.Prelude.{IfErr}
 use Rattle.ep_units.specs.Text.{Text}
 use Rattle.ep_units.specs.declared.session.Session.{Session}
-use Rattle.ep_outside.specs.Disk.{Contents}
 use Rattle.ep_outside.specs.declared.limits.Limits.{Limits}
 use Rattle.ep_cs.specs.EditFits.{is_edit}
 use Rattle.ep_history.specs.Accept.{live_fault, refusal, seat_fault}
 use Rattle.ep_history.specs.Pad.{PadState, seat_of}
 use Rattle.ep_history.specs.declared.pad_bad.PadBad.TheVariants as bad
-use Rattle.ep_history.specs.declared.record.Record.{Record}
 use Rattle.ep_history.specs.declared.seat.Seat.{Seat}
 use Rattle.ep_history.specs.declared.seat.Why.{Why}
 use Rattle.ep_history.proofs.Lists.{none_some, some_same}
-use Rattle.ep_pad.specs.Held.{Held}
 use Rattle.ep_schedule.specs.Headline.{after, first_sent}
 use Rattle.ep_schedule.specs.Kepts.{Kepts}
 use Rattle.ep_schedule.specs.World.{Name, Actor, Conn, Event, Member, Message, Reason, WorldState, late_as, late_by, late_first, late_of, pad_reason, reason, run, start, with_earlier, with_up}
@@ -22,13 +19,14 @@ use Rattle.ep_schedule.specs.World.Reason.{Unread, Refused}
 use Rattle.ep_schedule.proofs.Good.{IsGoodActor, IsGoodWorld, same-author, session_of}
 use Rattle.ep_schedule.proofs.Runs.{run-good, start-good}
 use Rattle.ep_world.specs.declared.bad.WorldBad.{WorldBad}
+use Rattle.ep_world.specs.declared.bad.WorldBad.TheVariants as world_bad
 use Rattle.ep_world.specs.declared.taking.Took.{Took}
 use Rattle.ep_world.specs.declared.taking.Took.TheVariants as took
 use Rattle.ep_world.specs.Journal.{record_if, record_taken}
 use Rattle.ep_world.specs.Late.{IsRefused, RefusesLate, next_late}
 use Rattle.ep_world.specs.Shows.{late_up}
 use Rattle.ep_world.specs.Standing.{IsRun}
-use Rattle.ep_world.specs.Taking.{Brings, shows_late}
+use Rattle.ep_world.specs.Taking.{shows_late}
 
 -- the session of the connection before the last resumption has ended
 ended : (w : WorldState) → IsGoodWorld w → (n : Name) (m : Member) (c : Conn) → w.actors n ≡ Named m → m.earlier ≡ Some c → (l : Seat) → seat_of w.pad c.session ≡ Some l → l.end ≡ None → ⊥
@@ -118,10 +116,9 @@ refuses-late w g = record {
 pub law : (limits : Limits) (id : Text) (events : List Event) → RefusesLate (after limits id events)
 law limits id events = refuses-late (run events (start limits id)) (run-good events (start limits id) (start-good limits id))
 
-module _ {D : Type 0} (told_by : D → Option Contents) (failures : D → ℕ) (stops_alone : D → Bool) (alone : Bool) (rs : List Record) where
-  -- so a late take never ends a world
-  pub late-ends : (pad : PadState) (s : Session) (msg : Message) (now : ℕ) (new : Held D) (n : Name) (t : Took) (P : WorldBad → Type 0) → IsRefused pad s msg
-      → Brings told_by failures stops_alone alone rs pad s msg now new t → IfErr (shows_late n t) P
-  late-ends pad s msg now new n (took.Made c) P r b = tt
-  late-ends pad s msg now new n (took.Refused x) P r b = tt
-  late-ends pad s msg now new n (took.NoRoom k) P r b = let h = late-reason pad s msg r in none_some (sym b.0 ∙ h.1)
+-- so a late take never ends a world, but that memory may be wanting
+pub late-ends : (n : Name) (t : Took) (P : WorldBad → Type 0) → P world_bad.NoMemory → IfErr (shows_late n t) P
+late-ends n (took.Made c) P m = tt
+late-ends n (took.Refused x) P m = tt
+late-ends n (took.NoRoom k) P m = m
+late-ends n (took.Shut k) P m = m

@@ -31,7 +31,7 @@ use Rattle.ep_world.specs.Events.{is_client, of_client}
 use Rattle.ep_world.specs.Failing.{shown_or_failed}
 use Rattle.ep_world.specs.Members.{kept_member_lost, kept_member_resumed}
 use Rattle.ep_world.specs.Shows.{shows_resume, shows_resumed}
-use Rattle.ep_world.specs.Journal.{behind, record_in}
+use Rattle.ep_world.specs.Journal.{behind, full_in, record_in, shows_full}
 use Rattle.ep_world.specs.Standing.{Comes, IsAnswered, IsAt, IsRun, StandsBut, StandsFor, answer_of, pad_after}
 use Rattle.ep_world.specs.Standing.IsPlayed.{IsEvent}
 use Rattle.ep_world.proofs.Brought.{unless-answers, unless-refuses-answer}
@@ -120,7 +120,9 @@ module _ {D : Type 0} (told_by : D → Option Contents) (failures : D → ℕ) (
     after = λ rs. refl;
     decides = λ rs. tt;
     same = refl;
-    full = (ap (lose_by w n) is, ap (kept_lose ks n) is);
+    fulls = λ rs. refl;
+    left = λ rs. refl;
+    full = λ rs. (ap (lose_by w n) is, ap (kept_lose ks n) is);
   }
     where
       faulty : (b : PadBad) → outcome w.pad (asks w ks now n m) ≡ Refuses b → fault w ks now n m ≡ Some b
@@ -154,7 +156,8 @@ module _ {D : Type 0} (told_by : D → Option Contents) (failures : D → ℕ) (
     ap is_client is,
     refl,
     IsEvent true
-        (ap (λ y. shown.Resumed n y x.head) session ∙ ap (shown.Resumed n (next_session w.pad)) heads ∙ sym (shows-as w ks now n m is rev None u.0)) refl (λ _. tt)
+        (ap (λ y. shown.Resumed n y x.head) session ∙ ap (shown.Resumed n (next_session w.pad)) heads ∙ sym (shows-as w ks now n m is rev None u.0))
+        (ap (shows_full (told.Resume n)) (subst (λ o. full_in rs w.pad (record_in o) ≡ None) u.1 a.2)) (λ _. tt)
         (subst (λ y. StandsFor told_by failures stops_alone alone rs new y (kept_happens w ks (AskedResume n))) (sym (resumes-as w ks now n m is rev None u.0))
         (subst (StandsFor told_by failures stops_alone alone rs new (resume_if w n (lost_member m) None)) (sym (kept-as w ks now n m is None u.0))
         (record {

@@ -1,5 +1,5 @@
 -- What reading a world comes to.
-use Rattle.std.proofs.Common.{◌≡◌, ℕ, Bool, List, true, false, not, [], ◌∷◌, Option, Some, None, Result, Ok, Err, if◌then◌else◌, refl, sym, ap, ◌∙◌, subst}
+use Rattle.std.proofs.Common.{◌≡◌, ℕ, Bool, List, true, false, not, [], ◌∷◌, Option, Some, None, Result, Ok, Err, inl, inr, if◌then◌else◌, refl, sym, ap, ◌∙◌, subst}
 use Rattle.std.specs.Prelude.{IfErr, IfOk, is_some, nat_le, nat_lt}
 use Rattle.std.proofs.lemmas.Bool.Decides.{nat_tests}
 use Rattle.std.proofs.Common.{arith}
@@ -7,6 +7,7 @@ use Rattle.ep_outside.specs.Disk.{Contents}
 use Rattle.ep_cs.specs.Doc.{Doc}
 use Rattle.ep_cs.specs.Fits.{is_identity}
 use Rattle.ep_history.specs.Client.{has_local, has_sent}
+use Rattle.ep_history.specs.Entries.{unless}
 use Rattle.ep_history.specs.Entries.Answer.{StatusAnswer, TextAnswer}
 use Rattle.ep_history.specs.Entries.Entry.{ReadStatus, ReadText}
 use Rattle.ep_history.specs.Entries.Outcome.{Answers}
@@ -24,24 +25,26 @@ use Rattle.ep_schedule.specs.World.{Name, Actor as AnActor, Member as AMember, W
 use Rattle.ep_schedule.specs.World.Actor.{Nobody, Guest, Named}
 use Rattle.ep_pad.specs.Held.{Held}
 use Rattle.ep_pad.specs.Standing.{replied}
-use Rattle.ep_pad_file.specs.Standing.{Holds}
+use Rattle.ep_pad_file.specs.Standing.{Holds, MayHold}
 use Rattle.ep_pad_state.specs.Answering.{status_of}
 use Rattle.ep_pad_state.specs.declared.answers.PadStatus.{PadStatus}
 use Rattle.ep_event.specs.declared.shown.Shown.{Shown}
 use Rattle.ep_event.specs.declared.shown.Shown.TheVariants as shown
+use Rattle.ep_event.specs.declared.shown.Verb.{Verb}
 use Rattle.ep_event.specs.declared.shown.Verb.TheVariants as verb
+use Rattle.ep_world.specs.declared.reading.Top.TheVariants as top
 use Rattle.ep_world.specs.declared.bad.WorldBad.{WorldBad}
 use Rattle.ep_world.specs.declared.bad.WorldBad.TheVariants as world_bad
 use Rattle.ep_world.specs.declared.world.World.{World}
 use Rattle.ep_world.specs.Actors.{actor_of, found}
 use Rattle.ep_world.specs.Events.{of_client, view_of}
 use Rattle.ep_world.specs.Reading.{ShowsClient, ShowsPad, TellsHead, client_kept, head_there}
-use Rattle.ep_world.specs.Shows.{shows_client, shows_head, shows_marks, shows_text, shows_text_if, shows_view, shows_view_marks, state_of}
-use Rattle.ep_world.specs.Journal.{behind, record_in}
-use Rattle.ep_world.specs.Standing.{IsAnswered, IsAt, IsRun, StandsFor, answer_of, pad_after}
+use Rattle.ep_world.specs.Shows.{pad_refuses, shows_client, shows_head, shows_marks, shows_text, shows_text_if, shows_view, shows_view_marks, state_of}
+use Rattle.ep_world.specs.Journal.{behind, full_in, reads_as, reads_if, record_in}
+use Rattle.ep_world.specs.Standing.{IsAnswered, IsAt, IsLent, IsRun, StandsFor, answer_of, pad_after}
 use Rattle.ep_world.proofs.Brought.{unless-answers, unless-refuses-answer}
 use Rattle.ep_world.proofs.Calls.{MakesMarked, answered}
-use Rattle.ep_world.proofs.Crashes.{status-gone, status-there}
+use Rattle.ep_world.proofs.Crashes.{status-gone, status-shut, status-there}
 use Rattle.ep_world.proofs.Leading.{kept}
 use Rattle.ep_history.specs.declared.record.Record.{Record}
 
@@ -158,28 +161,29 @@ module _ {D : Type 0} (told_by : D → Option Contents) (failures : D → ℕ) (
 
   -- a document is told
   text-told : (old new : Held D) (pad : PadState) (o : Option ℕ) (doc : Doc) → IsAnswered told_by failures stops_alone alone rs old pad (ReadText o) (Ok (TextAnswer doc)) new
-      → (text_fault pad o ≡ None) × (doc ≡ text pad o) × IsAt told_by failures stops_alone alone rs new pad
+      → (text_fault pad o ≡ None) × (doc ≡ text pad o) × IsAt told_by failures stops_alone alone rs new pad × (full_in rs pad None ≡ None)
   text-told old new pad o doc a =
       let u = unless-answers (text_fault pad o) (Answers (TextAnswer (text pad o)) pad) _ a.0 in
-      (u.0, same (sym (ap answer_of u.1) ∙ a.0), subst (λ x. IsAt told_by failures stops_alone alone (behind rs (record_in x)) new (pad_after pad x)) u.1 a.1)
+      (u.0, same (sym (ap answer_of u.1) ∙ a.0), subst (λ x. IsAt told_by failures stops_alone alone (behind rs (record_in x)) new (pad_after pad x)) u.1 a.1, subst (λ x. full_in rs pad (record_in x) ≡ None) u.1 a.2)
     where
       same : Some (TextAnswer (text pad o)) ≡ Some (TextAnswer doc) → doc ≡ text pad o
       same e = cc
 
   pub head-told : (old new : Held D) (pad : PadState) (r : ℕ) (doc : Doc) → pad.present ≡ true → r ≡ head (newest pad)
-      → IsAnswered told_by failures stops_alone alone rs old pad (ReadText None) (Ok (TextAnswer doc)) new → TellsHead told_by failures stops_alone alone rs pad (Ok (Some (r, doc))) new
+      → IsAnswered told_by failures stops_alone alone rs old pad (ReadText None) (Ok (TextAnswer doc)) new → TellsHead told_by failures stops_alone alone rs pad (Ok (top.There r doc)) new
   head-told old new pad r doc there e a =
       let t = text-told old new pad None doc a in (
-        ap (λ x. Some (both x doc)) e ∙ ap (λ x. Some (both (head (newest pad)) x)) t.1
-            ∙ sym (ap (λ b. if b then Some (both (head (newest pad)) (head_doc (newest pad))) else None) there),
+        (ap (λ b. if b then Some (both (head (newest pad)) (head_doc (newest pad))) else None) there
+            ∙ sym (ap (λ x. Some (both x doc)) e ∙ ap (λ x. Some (both (head (newest pad)) x)) t.1), t.3),
         t.2,
       )
     where
       both : ℕ → Doc → ℕ × Doc
       both a b = (a, b)
 
-  pub head-gone : (new : Held D) (pad : PadState) → pad.present ≡ false → IsAt told_by failures stops_alone alone rs new pad → TellsHead told_by failures stops_alone alone rs pad (Ok None) new
-  head-gone new pad gone a = (sym (ap (λ b. if b then Some (both (head (newest pad)) (head_doc (newest pad))) else None) gone), a)
+  pub head-gone : (new : Held D) (pad : PadState) → pad.present ≡ false → IsAt told_by failures stops_alone alone rs new pad → full_in rs pad None ≡ None
+      → TellsHead told_by failures stops_alone alone rs pad (Ok top.Gone) new
+  head-gone new pad gone a f = ((ap (λ b. if b then Some (both (head (newest pad)) (head_doc (newest pad))) else None) gone, f), a)
     where
       both : ℕ → Doc → ℕ × Doc
       both a b = (a, b)
@@ -188,16 +192,22 @@ module _ {D : Type 0} (told_by : D → Option Contents) (failures : D → ℕ) (
   Reads old r new = MakesMarked told_by failures stops_alone alone old ReadStatus (replied (λ x. StatusAnswer (status_of x)) r) new
 
   pub head-of : (old mid new : Held D) (pad : PadState) (st : PadStatus) (doc : Doc) (r : Result PadStatus PadBad) (x : Result Doc PadBad) → IsAt told_by failures stops_alone alone rs old pad
-      → Reads old r mid → r ≡ Ok st → MakesMarked told_by failures stops_alone alone mid (ReadText None) (replied TextAnswer x) new → x ≡ Ok doc → TellsHead told_by failures stops_alone alone rs pad (Ok (Some (st.head, doc))) new
+      → Reads old r mid → r ≡ Ok st → MakesMarked told_by failures stops_alone alone mid (ReadText None) (replied TextAnswer x) new → x ≡ Ok doc → TellsHead told_by failures stops_alone alone rs pad (Ok (top.There st.head doc)) new
   head-of old mid new pad st doc r x a reads is texts iz =
       let h = status-there told_by failures stops_alone alone rs old mid pad st
       (answered told_by failures stops_alone alone rs old mid pad ReadStatus (Ok (StatusAnswer (status_of st))) a (subst (λ y. Reads old y mid) is reads)) in
       head-told mid new pad st.head doc h.0 h.1 (text-asked mid new pad None x (Ok doc) h.2 texts iz)
 
-  pub head-off : (old new : Held D) (pad : PadState) (r : Result PadStatus PadBad) → IsAt told_by failures stops_alone alone rs old pad → Reads old r new → r ≡ Err bad.Gone → TellsHead told_by failures stops_alone alone rs pad (Ok None) new
+  pub head-off : (old new : Held D) (pad : PadState) (r : Result PadStatus PadBad) → IsAt told_by failures stops_alone alone rs old pad → Reads old r new → r ≡ Err bad.Gone → TellsHead told_by failures stops_alone alone rs pad (Ok top.Gone) new
   head-off old new pad r a reads is =
       let h = status-gone told_by failures stops_alone alone rs old new pad (answered told_by failures stops_alone alone rs old new pad ReadStatus (Err bad.Gone) a (subst (λ y. Reads old y new) is reads)) in
-      head-gone new pad h.0 h.1
+      head-gone new pad h.0 h.1 h.2
+
+  pub head-shut : (old new : Held D) (pad : PadState) (n : ℕ) (r : Result PadStatus PadBad) → IsAt told_by failures stops_alone alone rs old pad → Reads old r new → r ≡ Err (bad.JournalFull n)
+      → TellsHead told_by failures stops_alone alone rs pad (Ok (top.Shut n)) new
+  head-shut old new pad n r a reads is =
+      status-shut told_by failures stops_alone alone rs old new pad n
+      (answered told_by failures stops_alone alone rs old new pad ReadStatus (Err (bad.JournalFull n)) a (subst (λ y. Reads old y new) is reads))
 
   -- ---- the world
 
@@ -206,7 +216,7 @@ module _ {D : Type 0} (told_by : D → Option Contents) (failures : D → ℕ) (
       → new.actors ≡ old.actors → StandsFor told_by failures stops_alone alone rs new w ks
   reads-stands old new w ks s m i e = record { machine = m; id = i ∙ s.id; actors = λ q. ap (λ x. found x q) e ∙ s.actors q }
 
-  pub head-shows : (w : WorldState) (o : Option (ℕ × Doc)) → o ≡ head_there w.pad → (r : ℕ) (doc : Doc) → o ≡ Some (r, doc)
+  head-shows : (w : WorldState) (o : Option (ℕ × Doc)) → o ≡ head_there w.pad → (r : ℕ) (doc : Doc) → o ≡ Some (r, doc)
       → (shown.Head r doc ≡ shows_head w.pad) × (shown.HeadMarks r doc ≡ shows_marks w.pad)
   head-shows w o e r doc h = go w.pad.present refl
     where
@@ -221,7 +231,7 @@ module _ {D : Type 0} (told_by : D → Option Contents) (failures : D → ℕ) (
             ap (λ (x : ℕ × Doc). shown.HeadMarks x.0 x.1) q ∙ sym (ap (λ b. if b then shown.HeadMarks (head (newest w.pad)) (head_doc (newest w.pad)) else shown.Gone verb.Marks) p),
           )
 
-  pub gone-shows : (w : WorldState) (o : Option (ℕ × Doc)) → o ≡ head_there w.pad → o ≡ None
+  gone-shows : (w : WorldState) (o : Option (ℕ × Doc)) → o ≡ head_there w.pad → o ≡ None
       → (shown.Gone verb.Head ≡ shows_head w.pad) × (shown.Gone verb.Marks ≡ shows_marks w.pad)
   gone-shows w o e h = go w.pad.present refl
     where
@@ -235,31 +245,67 @@ module _ {D : Type 0} (told_by : D → Option Contents) (failures : D → ℕ) (
         sym (ap (λ b. if b then shown.HeadMarks (head (newest w.pad)) (head_doc (newest w.pad)) else shown.Gone verb.Marks) p),
       )
 
+  -- where nothing hinders, what is read is shown
+  reads-free : (pad : PadState) (v : Verb) (said : Shown) → full_in rs pad None ≡ None → reads_as rs pad v said ≡ said
+  reads-free pad v said f = ap (reads_if v said) f
+
+  pub reads-shut : (pad : PadState) (v : Verb) (said : Shown) (n : ℕ) → full_in rs pad None ≡ Some (bad.JournalFull n) → pad_refuses v None (bad.JournalFull n) ≡ reads_as rs pad v said
+  reads-shut pad v said n f = sym (ap (reads_if v said) f)
+
+  pub head-reads : (w : WorldState) (r : ℕ) (doc : Doc) → (head_there w.pad ≡ Some (r, doc)) × (full_in rs w.pad None ≡ None)
+      → (shown.Head r doc ≡ reads_as rs w.pad verb.Head (shows_head w.pad)) × (shown.HeadMarks r doc ≡ reads_as rs w.pad verb.Marks (shows_marks w.pad))
+  head-reads w r doc h =
+      let x = head-shows w (head_there w.pad) refl r doc h.0 in
+      (x.0 ∙ sym (reads-free w.pad verb.Head (shows_head w.pad) h.1), x.1 ∙ sym (reads-free w.pad verb.Marks (shows_marks w.pad) h.1))
+
+  pub gone-reads : (w : WorldState) → (head_there w.pad ≡ None) × (full_in rs w.pad None ≡ None)
+      → (shown.Gone verb.Head ≡ reads_as rs w.pad verb.Head (shows_head w.pad)) × (shown.Gone verb.Marks ≡ reads_as rs w.pad verb.Marks (shows_marks w.pad))
+  gone-reads w h =
+      let x = gone-shows w (head_there w.pad) refl h.0 in
+      (x.0 ∙ sym (reads-free w.pad verb.Head (shows_head w.pad) h.1), x.1 ∙ sym (reads-free w.pad verb.Marks (shows_marks w.pad) h.1))
+
   -- a revision is shown, and nothing else of the world changed
   pub text-shows : (before : ℕ) (old new : World D) (w : WorldState) (ks : Kepts) (r : ℕ) (doc : Doc) → StandsFor told_by failures stops_alone alone rs old w ks
       → IsAnswered told_by failures stops_alone alone rs old.machine w.pad (ReadText (Some r)) (Ok (TextAnswer doc)) new.machine → new.id ≡ old.id → new.actors ≡ old.actors
-      → ShowsPad told_by failures stops_alone alone rs before w ks (shows_text w.pad r) (Ok (shown.Text r doc)) new
+      → ShowsPad told_by failures stops_alone alone rs before w ks (reads_as rs w.pad verb.Text (shows_text w.pad r)) (Ok (shown.Text r doc)) new
   text-shows before old new w ks r doc s a i e =
       let t = text-told old.machine new.machine w.pad (Some r) doc a in
       let f = text-free w.pad.present (nat_lt (head (newest w.pad)) r) (head (newest w.pad)) t.0 in
-      (ap (shown.Text r) t.1 ∙ sym (text-shown w.pad r f.0 f.1), reads-stands old new w ks s t.2 i e)
+      (ap (shown.Text r) t.1 ∙ sym (text-shown w.pad r f.0 f.1) ∙ sym (reads-free w.pad verb.Text (shows_text w.pad r) t.3), reads-stands old new w ks s t.2 i e)
 
   pub gone-text-shows : (before : ℕ) (old new : World D) (w : WorldState) (ks : Kepts) (r : ℕ) → StandsFor told_by failures stops_alone alone rs old w ks
       → IsAnswered told_by failures stops_alone alone rs old.machine w.pad (ReadText (Some r)) (Err bad.Gone) new.machine → new.id ≡ old.id → new.actors ≡ old.actors
-      → ShowsPad told_by failures stops_alone alone rs before w ks (shows_text w.pad r) (Ok (shown.TextGone r)) new
+      → ShowsPad told_by failures stops_alone alone rs before w ks (reads_as rs w.pad verb.Text (shows_text w.pad r)) (Ok (shown.TextGone r)) new
   gone-text-shows before old new w ks r s a i e =
       let f = text-gone w.pad.present (nat_lt (head (newest w.pad)) r) (head (newest w.pad)) (unless-refuses-answer (text_fault w.pad (Some r)) _ _ bad.Gone a.0) in
-      (sym (ap (IfThere w.pad r) f), reads-stands old new w ks s a.1 i e)
+      (sym (ap (IfThere w.pad r) f) ∙ sym (reads-free w.pad verb.Text (shows_text w.pad r) a.2), reads-stands old new w ks s a.1 i e)
 
   pub no-rev-shows : (before : ℕ) (old new : World D) (w : WorldState) (ks : Kepts) (r h : ℕ) → StandsFor told_by failures stops_alone alone rs old w ks
       → IsAnswered told_by failures stops_alone alone rs old.machine w.pad (ReadText (Some r)) (Err (bad.NoRev h)) new.machine → new.id ≡ old.id → new.actors ≡ old.actors
-      → ShowsPad told_by failures stops_alone alone rs before w ks (shows_text w.pad r) (Ok (shown.NoRev r h)) new
+      → ShowsPad told_by failures stops_alone alone rs before w ks (reads_as rs w.pad verb.Text (shows_text w.pad r)) (Ok (shown.NoRev r h)) new
   no-rev-shows before old new w ks r h s a i e =
       let f = text-none w.pad.present (nat_lt (head (newest w.pad)) r) (head (newest w.pad)) h (unless-refuses-answer (text_fault w.pad (Some r)) _ _ (bad.NoRev h) a.0) in
-      (ap (shown.NoRev r) f.2 ∙ sym (none-shown w.pad r f.0 f.1), reads-stands old new w ks s a.1 i e)
+      (ap (shown.NoRev r) f.2 ∙ sym (none-shown w.pad r f.0 f.1) ∙ sym (reads-free w.pad verb.Text (shows_text w.pad r) a.2), reads-stands old new w ks s a.1 i e)
+
+  pub shut-text-shows : (before : ℕ) (old new : World D) (w : WorldState) (ks : Kepts) (r n : ℕ) → StandsFor told_by failures stops_alone alone rs old w ks
+      → IsAnswered told_by failures stops_alone alone rs old.machine w.pad (ReadText (Some r)) (Err (bad.JournalFull n)) new.machine → new.id ≡ old.id → new.actors ≡ old.actors
+      → ShowsPad told_by failures stops_alone alone rs before w ks (reads_as rs w.pad verb.Text (shows_text w.pad r)) (Ok (pad_refuses verb.Text None (bad.JournalFull n))) new
+  shut-text-shows before old new w ks r n s a i e =
+      (reads-shut w.pad verb.Text (shows_text w.pad r) n (ap (full_in rs w.pad) (sym (nothing (text_fault w.pad (Some r)))) ∙ a.1), reads-stands old new w ks s a.0 i e)
+    where
+      nothing : (f : Option PadBad) → record_in (unless f (Answers (TextAnswer (text w.pad (Some r))) w.pad)) ≡ None
+      nothing None = refl
+      nothing (Some b) = refl
 
   -- the machine for which the world stands, whose file has the records
-  pub lends : (world : World D) (w : WorldState) (ks : Kepts) → StandsFor told_by failures stops_alone alone rs world w ks
-      → IsAt told_by failures stops_alone alone rs world.machine w.pad × Holds (told_by world.machine.disk) rs
-  lends world w ks s =
-      let m = s.machine in (m, subst (Holds (told_by world.machine.disk)) m.records (m.stands.open_has (sym m.stands.is_open ∙ m.is_open)).holds)
+  pub lends : (world : World D) (w : WorldState) (ks : Kepts) → StandsFor told_by failures stops_alone alone rs world w ks → IsLent told_by failures stops_alone alone rs world.machine w.pad
+  lends world w ks s = go s.machine
+    where
+      go : IsAt told_by failures stops_alone alone rs world.machine w.pad → IsLent told_by failures stops_alone alone rs world.machine w.pad
+      go (inl m) = inl (m, subst (Holds (told_by world.machine.disk)) m.records (m.stands.open_has (sym m.stands.is_open ∙ m.is_open)).holds)
+      go (inr m) =
+          inr (
+            m,
+            subst (λ q. MayHold (told_by world.machine.disk) q []) m.records
+                (subst (MayHold (told_by world.machine.disk) m.state.records) m.settled (m.stands.closed_has (sym m.stands.is_open ∙ m.is_closed))),
+          )

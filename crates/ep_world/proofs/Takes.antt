@@ -1,19 +1,24 @@
 -- The server takes the first message of a name.
-use Rattle.std.proofs.Common.{◌≡◌, ℕ, Bool, true, not, List, [], ◌∷◌, ◌++◌, Option, Some, None, Ok, Err, refl, sym, ap, ◌∙◌, subst}
+use Rattle.std.proofs.Common.{◌≡◌, ℕ, Bool, true, false, if◌then◌else◌, not, List, [], ◌∷◌, ◌++◌, Option, Some, None, Ok, Err, refl, sym, ap, ◌∙◌, subst}
 use Rattle.ep_outside.specs.Disk.{Contents}
-use Rattle.ep_history.specs.Accept.{at_head}
-use Rattle.ep_history.specs.Readings.{commit}
+use Rattle.ep_cs.specs.EditFits.{is_edit}
+use Rattle.ep_units.specs.declared.session.Session.{Session}
+use Rattle.ep_history.specs.Accept.{at_head, seat_fault}
+use Rattle.ep_history.specs.Pad.{PadState, leave, seat_of}
+use Rattle.ep_history.specs.Readings.{commit, dead_if, end_of}
 use Rattle.ep_history.specs.Records.{accept_record}
+use Rattle.ep_history.specs.declared.pad_bad.PadBad.{PadBad}
 use Rattle.ep_history.proofs.Lists.{none_some}
+use Rattle.ep_pad.specs.Held.{Held}
 use Rattle.ep_schedule.specs.World.{Name, Actor as AnActor, Conn, Member as AMember, Message, Reason as AReason, WorldState, closing, refusal_word, happens, late_as, late_by, late_first, late_of, overfull_by, overfull_first_guest, overfull_first_named, overfull_guest, overfull_named, put, reason, take_by, take_first_guest, take_first_named, take_guest, take_named, with_conn, with_earlier, with_up}
 use Rattle.ep_schedule.specs.World.Actor.{Guest, Named}
-use Rattle.ep_schedule.specs.World.Event.{Take as AskedTake, Late as AskedLate}
-use Rattle.ep_schedule.specs.World.Word.{JournalFull}
+use Rattle.ep_schedule.specs.World.Event.{Take as AskedTake, Late as AskedLate, Overfull as AskedFull}
+use Rattle.ep_schedule.specs.World.Word.{BadChangeset, JournalFull}
 use Rattle.ep_schedule.specs.World.Reason.{Unread, Refused}
 use Rattle.ep_history.specs.declared.pad_bad.PadBad.TheVariants as bad
 use Rattle.ep_history.specs.declared.seat.Why.TheVariants as end
 use Rattle.ep_schedule.specs.Headline.{first_sent, next_up}
-use Rattle.ep_schedule.specs.Kepts.{Kepts}
+use Rattle.ep_schedule.specs.Kepts.{Kepts, kept_happens}
 use Rattle.ep_event.specs.declared.event.Event.{Event as Told}
 use Rattle.ep_event.specs.declared.event.Event.TheVariants as told
 use Rattle.ep_event.specs.declared.shown.Ended.TheVariants as ended
@@ -30,11 +35,12 @@ use Rattle.ep_world.specs.declared.world.World.{World}
 use Rattle.ep_world.specs.Actors.{PutsActor, actor_of, member_of}
 use Rattle.ep_world.specs.Conns.{conn_of, kept_closing, kept_closing_if, word_of}
 use Rattle.ep_world.specs.Events.{is_client, is_nobody, of_client}
-use Rattle.ep_world.specs.Journal.{full_by, record_at, record_if, record_taken, shows_full}
+use Rattle.ep_world.specs.Journal.{full_by, full_for, full_in, full_take, is_shut, record_at, record_if, record_taken, shows_full, unopened}
 use Rattle.ep_world.specs.Shows.{late_up, reason_of, shows_first, shows_made, shows_taken}
 use Rattle.ep_world.specs.Standing.{Comes, IsAt, StandsBut, StandsFor}
 use Rattle.ep_world.specs.Standing.IsPlayed.{HasNoRoom}
 use Rattle.ep_world.specs.Taking.{Brings, Settles, closing_of, closing_word, shows_late, shows_took}
+use Rattle.ep_world.proofs.Brought.{dead-left, reason-of, reason-unread}
 use Rattle.ep_world.proofs.Conns.{conn-closing}
 use Rattle.ep_world.proofs.Journal.{recorded}
 use Rattle.ep_world.proofs.Seating.{put-actors-kept, put-same}
@@ -72,6 +78,44 @@ closing-word (Refused (bad.TooLong n)) = refl
 closing-word (Refused bad.Foreign) = refl
 closing-word (Refused (bad.BadRecord n)) = refl
 
+-- ---- whether there is room for a message
+
+if-none : (b : Bool) (f : Option PadBad) → f ≡ None → (if b then f else None) ≡ None
+if-none true f e = e
+if-none false f e = refl
+
+-- a message that nothing refuses has a text that spells a change
+read-edit : (pad : PadState) (s : Session) (msg : Message) → reason pad s msg ≡ None → is_edit msg.change.edit ≡ true
+read-edit pad s msg e = go (is_edit msg.change.edit) refl
+  where
+    go : (b : Bool) → is_edit msg.change.edit ≡ b → is_edit msg.change.edit ≡ true
+    go true h = h
+    go false h = none_some (sym e ∙ reason-unread pad s msg h)
+
+-- one of a session of an older opening is refused for that
+old-reason : (pad : PadState) (s : Session) (msg : Message) → is_edit msg.change.edit ≡ true → seat_of pad s ≡ None → reason pad s msg ≡ Some (Refused (bad.Dead (end.Reopened pad.epoch)))
+old-reason pad s msg i h = reason-of pad s msg (Some (bad.Dead (end.Reopened pad.epoch))) i (ap (λ o. seat_fault pad o msg.base msg.change) h)
+
+module _ (rs : List Record) (pad : PadState) (s : Session) (now : ℕ) (msg : Message) where
+  -- what is recorded of it
+  abbrev by : Option AReason → Option PadBad
+  by r = if is_edit msg.change.edit then full_in rs pad (record_if pad s now msg r) else None
+
+  full-made : reason pad s msg ≡ None → full_in rs pad (Some (accept_record pad s now msg.base msg.change)) ≡ None → full_take rs pad now (Some (s, msg)) ≡ None
+  full-made e f = ap by e ∙ if-none (is_edit msg.change.edit) (full_in rs pad (Some (accept_record pad s now msg.base msg.change))) f
+
+  full-refused : (r : AReason) → reason pad s msg ≡ Some r → (if is_edit msg.change.edit then full_in rs pad None else None) ≡ None → full_take rs pad now (Some (s, msg)) ≡ None
+  full-refused r e f = ap by e ∙ f
+
+  full-room : (b : PadBad) → reason pad s msg ≡ None → is_shut rs pad ≡ false → full_by rs pad (Some (accept_record pad s now msg.base msg.change)) ≡ Some b → full_take rs pad now (Some (s, msg)) ≡ Some b
+  full-room b e h f =
+      ap by e ∙ ap (λ t. if t then full_in rs pad (Some (accept_record pad s now msg.base msg.change)) else None) (read-edit pad s msg e)
+      ∙ ap (λ t. if t then unopened rs pad else full_by rs pad (Some (accept_record pad s now msg.base msg.change))) h ∙ f
+
+  full-shut : (b : PadBad) → is_edit msg.change.edit ≡ true → {r : AReason} → reason pad s msg ≡ Some r → is_shut rs pad ≡ true → unopened rs pad ≡ Some b → full_take rs pad now (Some (s, msg)) ≡ Some b
+  full-shut b i e h f =
+      ap by e ∙ ap (λ t. if t then full_in rs pad None else None) i ∙ ap (λ t. if t then unopened rs pad else full_by rs pad None) h ∙ f
+
 module _ {D : Type 0} (told_by : D → Option Contents) (failures : D → ℕ) (stops_alone : D → Bool) (alone : Bool) (rs : List Record) where
   -- the name stands for somebody else now, whose client is kept as before
   seated : (qs : List Record) (mid new : World D) (n : Name) (w v : WorldState) (ks : Kepts) (x : AnActor) → StandsBut told_by failures stops_alone alone rs mid n w ks → IsAt told_by failures stops_alone alone qs new.machine v.pad
@@ -82,6 +126,17 @@ module _ {D : Type 0} (told_by : D → Option Contents) (failures : D → ℕ) (
     id = i ∙ s.id ∙ sym j;
     actors = λ q. put-actors-kept mid.actors new.actors w ks n x a s.actors p is q ∙ sym (ap (λ f. actor_of (f q) (ks q)) e);
   }
+
+  -- what stands where there is no room, by whether the pad is shut
+  abbrev AtFull : WorldState → Kepts → ℕ → Name → World D → Bool → Type 0
+  AtFull w ks now n new t =
+      StandsFor told_by failures stops_alone alone rs new (happens w (if t then AskedTake now n else AskedFull n)) (kept_happens w ks (if t then AskedTake now n else AskedFull n))
+
+  -- a session of an older opening is left by nothing
+  left-there : (qs : List Record) (new : Held D) (pad : PadState) (t : Session) → seat_of pad t ≡ None → IsAt told_by failures stops_alone alone qs new pad
+      → IsAt told_by failures stops_alone alone qs new (leave pad t)
+  left-there qs new pad t h a =
+      subst (IsAt told_by failures stops_alone alone qs new) (sym (dead-left pad t (bad.Dead (end.Reopened pad.epoch)) (ap (λ o. dead_if (end_of pad.epoch o)) h))) a
 
   -- a failure below is one of the world
   pub fails : (new : World D) (w : WorldState) (ks : Kepts) (now : ℕ) (e : Told) (b : WorldBad) → IsFailure b → Comes told_by failures stops_alone alone rs w ks now e new (Err b)
@@ -110,7 +165,8 @@ module _ {D : Type 0} (told_by : D → Option Contents) (failures : D → ℕ) (
     refl,
     recorded told_by failures stops_alone alone rs w ks now (told.Take n) new _ None
         (sym (ap (λ x. shows_first verb.Take n w.pad (next_up x)) is ∙ ap (λ us. shows_first verb.Take n w.pad (first_sent c.session us)) none))
-        (ap (λ x. record_taken w.pad now (next_up x)) is ∙ ap (λ us. record_taken w.pad now (first_sent c.session us)) none) refl (λ qs. refl) tt
+        (ap (λ x. record_taken w.pad now (next_up x)) is ∙ ap (λ us. record_taken w.pad now (first_sent c.session us)) none)
+        (ap (λ x. full_take rs w.pad now (next_up x)) is ∙ ap (λ us. full_take rs w.pad now (first_sent c.session us)) none) (λ qs. refl) tt
         (subst (λ y. StandsFor told_by failures stops_alone alone rs new y ks) (sym (ap (take_by w now n) is ∙ ap (take_first_guest w now n c) none))
         (back mid new w ks n (Guest c) is s m i (actor.Guest (conn_of c)) refl p)),
   )
@@ -132,6 +188,9 @@ module _ {D : Type 0} (told_by : D → Option Contents) (failures : D → ℕ) (
           ap (λ x. record_taken w.pad now (next_up x)) is ∙ ap (λ us. record_taken w.pad now (first_sent c.session us)) up
           ∙ ap (record_if w.pad c.session now msg) e
 
+      fulls : (f : Option PadBad) → full_take rs w.pad now (Some (c.session, msg)) ≡ f → full_for rs w now true (told.Take n) ≡ f
+      fulls f e = ap (λ x. full_take rs w.pad now (next_up x)) is ∙ ap (λ us. full_take rs w.pad now (first_sent c.session us)) up ∙ e
+
       takes : (r : Option AReason) → reason w.pad c.session msg ≡ r → happens w (AskedTake now n) ≡ take_guest w now n d msg r
       takes r e = ap (take_by w now n) is ∙ ap (take_first_guest w now n c) up ∙ ap (take_guest w now n d msg) e
 
@@ -144,7 +203,7 @@ module _ {D : Type 0} (told_by : D → Option Contents) (failures : D → ℕ) (
         refl,
         recorded told_by failures stops_alone alone rs w ks now (told.Take n) new _ _
             (sym (shows-of ∙ ap (shows_taken verb.Take n (commit w.pad (at_head w.pad msg.base msg.change.edit))) h.0 ∙ ap (shows_made verb.Take n) (sym h.1)))
-            (records None h.0) h.3 (λ qs. refl) tt
+            (records None h.0) (fulls None (full-made rs w.pad c.session now msg h.0 h.3)) (λ qs. refl) tt
             (subst (λ y. StandsFor told_by failures stops_alone alone (rs ++ accept_record w.pad c.session now msg.base msg.change ∷ []) new y ks) (sym (takes None h.0)) (stands (rs ++ accept_record w.pad c.session now msg.base msg.change ∷ []) (take_guest w now n d msg None) h.2 refl refl)),
       )
       go (took.Refused x) h = (
@@ -152,16 +211,22 @@ module _ {D : Type 0} (told_by : D → Option Contents) (failures : D → ℕ) (
         refl,
         recorded told_by failures stops_alone alone rs w ks now (told.Take n) new _ _
             (sym (shows-of ∙ ap (shows_taken verb.Take n (commit w.pad (at_head w.pad msg.base msg.change.edit))) h.1 ∙ ap (λ y. shown.Refused verb.Take (Some n) y) (sym h.2)))
-            (records (Some h.0) h.1) refl (λ qs. refl) tt
+            (records (Some h.0) h.1) (fulls None (full-refused rs w.pad c.session now msg h.0 h.1 h.4)) (λ qs. refl) tt
             (subst (λ y. StandsFor told_by failures stops_alone alone rs new y ks) (sym (takes (Some h.0) h.1)) (stands rs (take_guest w now n d msg (Some h.0)) h.3 refl refl)),
       )
       go (took.NoRoom b) h = (
         somebody (w.actors n) c is,
         refl,
-        HasNoRoom (ap (λ o. shows_full (told.Take n) (full_by rs w.pad o)) (records None h.0) ∙ ap (shows_full (told.Take n)) h.2)
-            (subst (λ y. StandsFor told_by failures stops_alone alone rs new y ks)
-            (sym (ap (overfull_by w n) is ∙ ap (overfull_first_guest w n c) up ∙ ap (overfull_guest w n d) h.0))
-            (stands rs (overfull_guest w n d None) h.1 refl refl)),
+        HasNoRoom true (ap (shows_full (told.Take n)) (fulls (Some (bad.JournalFull b)) (full-room rs w.pad c.session now msg (bad.JournalFull b) h.0 h.2 h.3))) (λ _. tt)
+            (subst (AtFull w ks now n new) (sym h.2) (subst (λ y. StandsFor told_by failures stops_alone alone rs new y ks) (sym (ap (overfull_by w n) is ∙ ap (overfull_first_guest w n c) up ∙ ap (overfull_guest w n d) h.0))
+            (stands rs (overfull_guest w n d None) h.1 refl refl))),
+      )
+      go (took.Shut b) h = (
+        somebody (w.actors n) c is,
+        refl,
+        HasNoRoom true (ap (shows_full (told.Take n)) (fulls (Some (bad.JournalFull b)) (full-shut rs w.pad c.session now msg (bad.JournalFull b) h.0 (old-reason w.pad c.session msg h.0 h.1) h.3 h.4))) (λ _. tt)
+            (subst (AtFull w ks now n new) (sym h.3) (subst (λ y. StandsFor told_by failures stops_alone alone rs new y ks) (sym (takes (Some (Refused (bad.Dead (end.Reopened w.pad.epoch)))) (old-reason w.pad c.session msg h.0 h.1)))
+            (stands rs (take_guest w now n d msg (Some (Refused (bad.Dead (end.Reopened w.pad.epoch))))) (left-there rs new.machine w.pad c.session h.1 h.2) refl refl))),
       )
 
   -- ---- of a client
@@ -174,7 +239,8 @@ module _ {D : Type 0} (told_by : D → Option Contents) (failures : D → ℕ) (
     refl,
     recorded told_by failures stops_alone alone rs w ks now (told.Take n) new _ None
         (sym (ap (λ x. shows_first verb.Take n w.pad (next_up x)) is ∙ ap (λ us. shows_first verb.Take n w.pad (first_sent m.conn.session us)) none))
-        (ap (λ x. record_taken w.pad now (next_up x)) is ∙ ap (λ us. record_taken w.pad now (first_sent m.conn.session us)) none) refl (λ qs. refl) tt
+        (ap (λ x. record_taken w.pad now (next_up x)) is ∙ ap (λ us. record_taken w.pad now (first_sent m.conn.session us)) none)
+        (ap (λ x. full_take rs w.pad now (next_up x)) is ∙ ap (λ us. full_take rs w.pad now (first_sent m.conn.session us)) none) (λ qs. refl) tt
         (subst (λ y. StandsFor told_by failures stops_alone alone rs new y ks) (sym (ap (take_by w now n) is ∙ ap (take_first_named w now n m) none))
         (back mid new w ks n (Named m) is s k i (actor.Named (member_of m (ks n))) refl p)),
   )
@@ -196,6 +262,9 @@ module _ {D : Type 0} (told_by : D → Option Contents) (failures : D → ℕ) (
           ap (λ x. record_taken w.pad now (next_up x)) is ∙ ap (λ us. record_taken w.pad now (first_sent m.conn.session us)) up
           ∙ ap (record_if w.pad m.conn.session now msg) e
 
+      fulls : (f : Option PadBad) → full_take rs w.pad now (Some (m.conn.session, msg)) ≡ f → full_for rs w now true (told.Take n) ≡ f
+      fulls f e = ap (λ x. full_take rs w.pad now (next_up x)) is ∙ ap (λ us. full_take rs w.pad now (first_sent m.conn.session us)) up ∙ e
+
       takes : (r : Option AReason) → reason w.pad m.conn.session msg ≡ r → happens w (AskedTake now n) ≡ take_named w now n d msg r
       takes r e = ap (take_by w now n) is ∙ ap (take_first_named w now n m) up ∙ ap (take_named w now n d msg) e
 
@@ -208,7 +277,7 @@ module _ {D : Type 0} (told_by : D → Option Contents) (failures : D → ℕ) (
         refl,
         recorded told_by failures stops_alone alone rs w ks now (told.Take n) new _ _
             (sym (shows-of ∙ ap (shows_taken verb.Take n (commit w.pad (at_head w.pad msg.base msg.change.edit))) h.0 ∙ ap (shows_made verb.Take n) (sym h.1)))
-            (records None h.0) h.3 (λ qs. refl) tt
+            (records None h.0) (fulls None (full-made rs w.pad m.conn.session now msg h.0 h.3)) (λ qs. refl) tt
             (subst (λ y. StandsFor told_by failures stops_alone alone (rs ++ accept_record w.pad m.conn.session now msg.base msg.change ∷ []) new y ks) (sym (takes None h.0))
             (seated (rs ++ accept_record w.pad m.conn.session now msg.base msg.change ∷ []) mid new n w (take_named w now n d msg None) ks (Named d) s h.2 i refl refl (actor.Named (member_of d (ks n))) refl p)),
       )
@@ -217,7 +286,7 @@ module _ {D : Type 0} (told_by : D → Option Contents) (failures : D → ℕ) (
         refl,
         recorded told_by failures stops_alone alone rs w ks now (told.Take n) new _ _
             (sym (shows-of ∙ ap (shows_taken verb.Take n (commit w.pad (at_head w.pad msg.base msg.change.edit))) h.1 ∙ ap (λ y. shown.Refused verb.Take (Some n) y) (sym h.2)))
-            (records (Some h.0) h.1) refl (λ qs. refl) tt
+            (records (Some h.0) h.1) (fulls None (full-refused rs w.pad m.conn.session now msg h.0 h.1 h.4)) (λ qs. refl) tt
             (subst (λ y. StandsFor told_by failures stops_alone alone rs new y ks) (sym (takes (Some h.0) h.1))
             (seated rs mid new n w (take_named w now n d msg (Some h.0)) ks (Named (with_conn d (closing (refusal_word h.0) d.conn))) s h.3 i refl refl
             (actor.Named (record (member_of m (ks n)) { conn = kept_closing (closing_word x) (conn_of d.conn) }))
@@ -226,12 +295,21 @@ module _ {D : Type 0} (told_by : D → Option Contents) (failures : D → ℕ) (
       go (took.NoRoom b) h p = (
         somebody-named (w.actors n) m is,
         refl,
-        HasNoRoom (ap (λ o. shows_full (told.Take n) (full_by rs w.pad o)) (records None h.0) ∙ ap (shows_full (told.Take n)) h.2)
-            (subst (λ y. StandsFor told_by failures stops_alone alone rs new y ks)
-            (sym (ap (overfull_by w n) is ∙ ap (overfull_first_named w n m) up ∙ ap (overfull_named w n d) h.0))
+        HasNoRoom true (ap (shows_full (told.Take n)) (fulls (Some (bad.JournalFull b)) (full-room rs w.pad m.conn.session now msg (bad.JournalFull b) h.0 h.2 h.3))) (λ _. tt)
+            (subst (AtFull w ks now n new) (sym h.2) (subst (λ y. StandsFor told_by failures stops_alone alone rs new y ks) (sym (ap (overfull_by w n) is ∙ ap (overfull_first_named w n m) up ∙ ap (overfull_named w n d) h.0))
             (seated rs mid new n w (overfull_named w n d None) ks (Named (with_conn d (closing JournalFull d.conn))) s h.1 i refl refl
             (actor.Named (record (member_of m (ks n)) { conn = kept_closing ended.Full (conn_of d.conn) }))
-            (ap (λ y. Some (actor.Named (record (member_of m (ks n)) { conn = y }))) (conn-closing JournalFull d.conn)) p)),
+            (ap (λ y. Some (actor.Named (record (member_of m (ks n)) { conn = y }))) (conn-closing JournalFull d.conn)) p))),
+      )
+      go (took.Shut b) h p = (
+        somebody-named (w.actors n) m is,
+        refl,
+        HasNoRoom true (ap (shows_full (told.Take n)) (fulls (Some (bad.JournalFull b)) (full-shut rs w.pad m.conn.session now msg (bad.JournalFull b) h.0 (old-reason w.pad m.conn.session msg h.0 h.1) h.3 h.4))) (λ _. tt)
+            (subst (AtFull w ks now n new) (sym h.3) (subst (λ y. StandsFor told_by failures stops_alone alone rs new y ks) (sym (takes (Some (Refused (bad.Dead (end.Reopened w.pad.epoch)))) (old-reason w.pad m.conn.session msg h.0 h.1)))
+            (seated rs mid new n w (take_named w now n d msg (Some (Refused (bad.Dead (end.Reopened w.pad.epoch))))) ks (Named (with_conn d (closing BadChangeset d.conn))) s
+            (left-there rs new.machine w.pad m.conn.session h.1 h.2) i refl refl
+            (actor.Named (record (member_of m (ks n)) { conn = kept_closing ended.BadChangeset (conn_of d.conn) }))
+            (ap (λ y. Some (actor.Named (record (member_of m (ks n)) { conn = y }))) (conn-closing BadChangeset d.conn)) p))),
       )
 
   -- ---- of the connection before the last resumption
@@ -296,7 +374,7 @@ module _ {D : Type 0} (told_by : D → Option Contents) (failures : D → ℕ) (
         refl,
         recorded told_by failures stops_alone alone rs w ks now (told.Late n) new _ _
             (sym (shows-of ∙ ap (shows_taken verb.Late n (commit w.pad (at_head w.pad msg.base msg.change.edit))) h.0 ∙ ap (shows_made verb.Late n) (sym h.1)))
-            (records None h.0) h.3 (λ qs. refl) tt
+            (records None h.0) refl (λ qs. refl) tt
             (subst (λ y. StandsFor told_by failures stops_alone alone (rs ++ accept_record w.pad c.session now msg.base msg.change ∷ []) new y ks) (sym (takes None h.0)) (stands (rs ++ accept_record w.pad c.session now msg.base msg.change ∷ []) (late_as w now n d c.session msg None) h.2 refl refl)),
       )
       go (took.Refused x) h = (
@@ -308,3 +386,4 @@ module _ {D : Type 0} (told_by : D → Option Contents) (failures : D → ℕ) (
             (subst (λ y. StandsFor told_by failures stops_alone alone rs new y ks) (sym (takes (Some h.0) h.1)) (stands rs (late_as w now n d c.session msg (Some h.0)) h.3 refl refl)),
       )
       go (took.NoRoom b) h = tt
+      go (took.Shut b) h = tt

@@ -11,11 +11,16 @@ use Rattle.ep_event.specs.declared.shown.Verb.{Verb}
 use Rattle.ep_world.specs.declared.bad.WorldBad.{WorldBad}
 use Rattle.ep_world.specs.declared.bad.WorldBad.TheVariants as world_bad
 
--- the store failed, the journal has no room for an opening, or memory is wanting
+-- the store failed, or memory is wanting
 abbrev pub failed : PadBad → WorldBad
 failed (bad.Store n) = world_bad.Store n
-failed (bad.JournalFull n) = world_bad.Full n
 failed b = world_bad.NoMemory
+
+-- or the journal has no room for an opening
+abbrev pub failed_opening : PadBad → WorldBad
+failed_opening (bad.Store n) = world_bad.Store n
+failed_opening (bad.JournalFull n) = world_bad.Full n
+failed_opening b = world_bad.NoMemory
 
 -- a refusal is shown, unless it ends the world
 abbrev pub shown_or_failed : Verb → Option Name → PadBad → Result Shown WorldBad

@@ -6,7 +6,7 @@ use Rattle.ep_schedule.specs.Headline.{Headline}
 use Rattle.ep_schedule.specs.Hearing.{AreDue}
 use Rattle.ep_event.specs.declared.event.Event.{Event as Told}
 use Rattle.ep_world.specs.Events.{event_at, happened, has_text, is_known, kept_happened}
-use Rattle.ep_world.specs.Journal.{Decides, begun, full_at, journal_after}
+use Rattle.ep_world.specs.Journal.{Decides, begun, full_at, journal_after, journal_full}
 use Rattle.ep_world.specs.Standing.{IsRun, StandsFor, overfull_at}
 use Rattle.ep_world.specs.declared.world.World.{World}
 use Rattle.ep_outside.specs.Disk.{Contents}
@@ -17,8 +17,8 @@ use Rattle.ep_history.specs.declared.record.Record.{Record}
 -- within a take the image that is asked for decides, where the disk fails in a stop alone.
 abbrev pub BecomesIf : Bool → Bool → List Record → WorldState → ℕ × Told → Option Event → List Record → Type 0
 BecomesIf true alone rs w e o qs =
-    ((kept : Bool) × (o ≡ event_at w e.0 kept e.1) × (full_at rs w e.0 e.1 ≡ None) × (alone ≡ true → Decides rs w e.0 e.1 kept) × (qs ≡ journal_after rs w e.0 kept e.1))
-    ⊎ ((o ≡ overfull_at e.1) × IsSome (full_at rs w e.0 e.1) × (qs ≡ rs))
+    ((kept : Bool) × (o ≡ event_at w e.0 kept e.1) × (full_at rs w e.0 kept e.1 ≡ None) × (alone ≡ true → Decides rs w e.0 e.1 kept) × (qs ≡ journal_after rs w e.0 kept e.1))
+    ⊎ ((kept : Bool) × (o ≡ overfull_at rs w e.0 kept e.1) × IsSome (full_at rs w e.0 kept e.1) × (alone ≡ true → Decides rs w e.0 e.1 kept) × (qs ≡ journal_full rs w e.0 kept e.1))
 BecomesIf false alone rs w e o qs = (o ≡ None) × (qs ≡ rs)
 
 abbrev pub Becomes : Bool → List Record → WorldState → ℕ × Told → Option Event → List Record → Type 0

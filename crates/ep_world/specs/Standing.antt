@@ -1,5 +1,5 @@
 -- For which worlds of the rules a world in code stands, and what its calls come to there.
-use Rattle.std.specs.Prelude.{◌≡◌, ◌⊎◌, ℕ, Bool, true, false, List, [], Option, Some, None, Result, Ok, Err, IfErr}
+use Rattle.std.specs.Prelude.{◌≡◌, ◌⊎◌, ℕ, ◌<◌, Bool, true, false, if◌then◌else◌, List, [], Option, Some, None, Result, Ok, Err, IfErr}
 use Rattle.ep_units.specs.Text.{Text, text_eq}
 use Rattle.ep_outside.specs.Disk.{Contents}
 use Rattle.ep_outside.specs.declared.limits.Limits.{Limits}
@@ -12,11 +12,11 @@ use Rattle.ep_history.specs.declared.pad_bad.PadBad.TheVariants as bad
 use Rattle.ep_history.specs.declared.record.Record.{Record}
 use Rattle.ep_history.specs.declared.record.Record.TheVariants as record_of
 use Rattle.ep_schedule.specs.World.{Name, WorldState, Event, start, run}
-use Rattle.ep_schedule.specs.World.Event.{Lose, Overfull}
+use Rattle.ep_schedule.specs.World.Event.{Lose, Overfull, Take}
 use Rattle.ep_schedule.specs.Kepts.{Kepts, nobodies, run_kept}
 use Rattle.ep_pad.specs.Held.{Held}
 use Rattle.ep_pad.specs.Opening.{HasRisenTo}
-use Rattle.ep_pad_file.specs.Standing.{MayHold}
+use Rattle.ep_pad_file.specs.Standing.{Holds, MayHold}
 use Rattle.ep_pad.specs.Standing.{Stands}
 use Rattle.ep_event.specs.declared.event.Event.{Event as Told}
 use Rattle.ep_event.specs.declared.event.Event.TheVariants as told
@@ -26,7 +26,7 @@ use Rattle.ep_world.specs.declared.bad.WorldBad.TheVariants as world_bad
 use Rattle.ep_world.specs.Actors.{AreActors, actor_of, found}
 use Rattle.ep_world.specs.Events.{event_at, happened, kept_happened, is_known, has_text}
 use Rattle.ep_world.specs.declared.world.World.{World}
-use Rattle.ep_world.specs.Journal.{Decides, LacksOpening, behind, full_at, full_by, journal_after, record_in}
+use Rattle.ep_world.specs.Journal.{Decides, LacksOpening, behind, full_at, full_by, full_in, is_shut, journal_after, journal_full, record_in, unopened}
 use Rattle.ep_world.specs.Shows.{shows}
 
 -- ---- runs
@@ -55,16 +55,18 @@ answer_of (Records r a next) = Some a
 
 -- ---- a journal without room
 
--- an event for which it has none changes nothing, but that a take ends its session, and that who would have come back is lost
-abbrev pub overfull_at : Told → Option Event
-overfull_at (told.Take n) = Some (Overfull n)
-overfull_at (told.Resume n) = Some (Lose n)
-overfull_at e = None
+-- An event for which it has none changes nothing, but that a take ends its session, and that who would have come back is lost.
+-- Where the pad is shut each session is of an older opening, so that the rules refuse what is taken. A crash is one all the same.
+abbrev pub overfull_at : List Record → WorldState → ℕ → Bool → Told → Option Event
+overfull_at rs w now kept (told.Take n) = Some (if is_shut rs w.pad then Take now n else Overfull n)
+overfull_at rs w now kept (told.Resume n) = Some (Lose n)
+overfull_at rs w now kept (told.Stop at) = event_at w now kept (told.Stop at)
+overfull_at rs w now kept e = None
 
 module _ {D : Type 0} (told_by : D → Option Contents) (failures : D → ℕ) (stops_alone : D → Bool) (alone : Bool) (rs : List Record) where
   -- an open machine in a state of this pad, which its records tell, and they are these; and its disk has this mark, that it
   -- fails in a stop alone
-  pub record IsAt (m : Held D) (p : PadState) : Type 0 where
+  pub record IsOpenAt (m : Held D) (p : PadState) : Type 0 where
     pub state : MachineState
     pub stands : Stands told_by failures m state
     pub kept : IsKeptState state
@@ -72,6 +74,29 @@ module _ {D : Type 0} (told_by : D → Option Contents) (failures : D → ℕ) (
     pub records : state.records ≡ rs
     pub pad : state.pad ≡ p
     pub mark : stops_alone m.disk ≡ alone
+
+  -- A closed machine, whose journal with these records has no room for an opening: so many bytes are too many. The pad is what
+  -- they tell, but that it counts an opening more at least, and that nobody has entered it since.
+  pub record IsShutAt (m : Held D) (p : PadState) : Type 0 where
+    pub state : MachineState
+    pub stands : Stands told_by failures m state
+    pub kept : IsKeptState state
+    pub is_closed : state.is_open ≡ false
+    pub settled : state.pending ≡ []
+    pub records : state.records ≡ rs
+    pub pad : p ≡ record state.pad { epoch = p.epoch; sessions = [] }
+    pub older : state.pad.epoch < p.epoch
+    pub bytes : ℕ
+    pub full : unopened rs p ≡ Some (bad.JournalFull bytes)
+    pub mark : stops_alone m.disk ≡ alone
+
+  -- one or the other
+  abbrev pub IsAt : Held D → PadState → Type 0
+  IsAt m p = IsOpenAt m p ⊎ IsShutAt m p
+
+  -- what its file has then
+  abbrev pub IsLent : Held D → PadState → Type 0
+  IsLent m p = (IsOpenAt m p × Holds (told_by m.disk) rs) ⊎ (IsShutAt m p × MayHold (told_by m.disk) rs [])
 
   -- ---- the world
 
@@ -89,29 +114,29 @@ module _ {D : Type 0} (told_by : D → Option Contents) (failures : D → ℕ) (
 
 module _ {D : Type 0} (told_by : D → Option Contents) (failures : D → ℕ) (stops_alone : D → Bool) (alone : Bool) (rs : List Record) where
   -- an entry is answered as the rules say, and its record is kept; or refused for its reason; or the journal has no room for
-  -- its record; or the machine is good for nothing more
+  -- its record, or for an opening before it; or the machine is good for nothing more
   abbrev pub IsAnswered : Held D → PadState → Entry → Reply → Held D → Type 0
   IsAnswered old pad e (Ok a) new =
       (answer_of (outcome pad e) ≡ Some a)
       × IsAt told_by failures stops_alone alone (behind rs (record_in (outcome pad e))) new (pad_after pad (outcome pad e))
-      × (full_by rs pad (record_in (outcome pad e)) ≡ None)
+      × (full_in rs pad (record_in (outcome pad e)) ≡ None)
   IsAnswered old pad e (Err bad.NoMemory) new = Unit {0}
   IsAnswered old pad e (Err (bad.Store n)) new = Unit {0}
   IsAnswered old pad e (Err (bad.JournalFull n)) new =
-      IsAt told_by failures stops_alone alone rs new pad × ((outcome pad e ≡ Refuses (bad.JournalFull n))
-      ⊎ ((r : Record) × (a : Answer) × (next : PadState) × (outcome pad e ≡ Records r a next) × (full_by rs pad (Some r) ≡ Some (bad.JournalFull n))))
-  IsAnswered old pad e (Err b) new = (outcome pad e ≡ Refuses b) × IsAt told_by failures stops_alone alone rs new pad
+      IsAt told_by failures stops_alone alone rs new pad × (full_in rs pad (record_in (outcome pad e)) ≡ Some (bad.JournalFull n))
+  IsAnswered old pad e (Err b) new = (outcome pad e ≡ Refuses b) × IsAt told_by failures stops_alone alone rs new pad × (full_in rs pad None ≡ None)
 
   -- ---- events
 
   -- an event was played: it is shown, and then the world in code stands for the one after it; or for the one in which the
-  -- journal had no room
+  -- journal had no room, for its record or for an opening
   pub data IsPlayed (w : WorldState) (ks : Kepts) (now : ℕ) (e : Told) (new : World D) (shown : Shown) : Type 0 where
-    IsEvent : (kept : Bool) → shown ≡ shows w now kept e → full_at rs w now e ≡ None → (alone ≡ true → Decides rs w now e kept)
+    IsEvent : (kept : Bool) → shown ≡ shows w now kept e → full_at rs w now kept e ≡ None → (alone ≡ true → Decides rs w now e kept)
         → StandsFor told_by failures stops_alone alone (journal_after rs w now kept e) new (happened w (event_at w now kept e)) (kept_happened w ks (event_at w now kept e))
         → IsPlayed w ks now e new shown
-    HasNoRoom : full_at rs w now e ≡ Some shown
-        → StandsFor told_by failures stops_alone alone rs new (happened w (overfull_at e)) (kept_happened w ks (overfull_at e)) → IsPlayed w ks now e new shown
+    HasNoRoom : (kept : Bool) → full_at rs w now kept e ≡ Some shown → (alone ≡ true → Decides rs w now e kept)
+        → StandsFor told_by failures stops_alone alone (journal_full rs w now kept e) new (happened w (overfull_at rs w now kept e)) (kept_happened w ks (overfull_at rs w now kept e))
+        → IsPlayed w ks now e new shown
 
   -- what an event comes to. Where nobody of the kind has the name, or where what it brings is no text, nothing happens.
   abbrev pub Comes : WorldState → Kepts → ℕ → Told → World D → Result Shown WorldBad → Type 0

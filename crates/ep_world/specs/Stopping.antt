@@ -1,5 +1,5 @@
 -- What a crash comes to.
-use Rattle.std.specs.Prelude.{◌≡◌, ℕ, Bool, true, false, List, [], ◌∷◌, ◌++◌, Option, Some, None, Result, Ok, Err}
+use Rattle.std.specs.Prelude.{◌≡◌, ◌⊎◌, ℕ, Bool, true, false, List, [], ◌∷◌, ◌++◌, Option, Some, None, Result, Ok, Err}
 use Rattle.ep_units.specs.declared.session.Session.{Session}
 use Rattle.ep_outside.specs.Disk.{Contents}
 use Rattle.ep_history.specs.Accept.{committed}
@@ -18,8 +18,13 @@ use Rattle.ep_world.specs.declared.message.Sent.{Sent}
 use Rattle.ep_world.specs.Actors.{IsSame, PutsActor, found}
 use Rattle.ep_world.specs.Conns.{KeptConn, TakesUp, sent_of}
 use Rattle.ep_pad.specs.Opening.{HasRisenTo}
-use Rattle.ep_world.specs.Journal.{IsOpeningFull, behind, kept_record, keeps_record, record_taken}
-use Rattle.ep_world.specs.Standing.{IsAt}
+use Rattle.ep_history.specs.declared.pad_bad.PadBad.{PadBad}
+use Rattle.ep_history.specs.declared.pad_bad.PadBad.TheVariants as bad
+use Rattle.ep_event.specs.declared.shown.Shown.{Shown}
+use Rattle.ep_event.specs.declared.shown.Verb.TheVariants as verb
+use Rattle.ep_world.specs.Journal.{IsOpeningFull, behind, full_in, kept_record, keeps_record, record_taken, unopened}
+use Rattle.ep_world.specs.Shows.{pad_refuses, shows_opening}
+use Rattle.ep_world.specs.Standing.{IsAt, IsOpenAt, IsShutAt}
 use Rattle.ep_history.specs.declared.record.Record.{Record}
 
 -- ---- the first message
@@ -64,9 +69,9 @@ broken_by pad now (Some x) kept = broken_off pad x.0 now x.1 kept
 abbrev pub taken_of : Session × Message → Session × Sent
 taken_of x = (x.0, sent_of x.1)
 
--- the pad's journal behind it, and an opening
+-- the pad's journal behind it
 abbrev pub journal_broken : List Record → PadState → ℕ → Option (Session × Message) → Bool → List Record
-journal_broken rs pad now x kept = behind rs (kept_record kept (record_taken pad now x)) ++ opening pad ∷ []
+journal_broken rs pad now x kept = behind rs (kept_record kept (record_taken pad now x))
 
 -- a machine isn't opened again behind these records: the store failed, the journal has no room for the opening, or memory is
 -- wanting
@@ -80,14 +85,29 @@ abbrev pub BreaksNot : Bool → List Record → PadState → ℕ → Option (Ses
 BreaksNot alone rs pad now first before after b =
     alone ≡ true → (kept : Bool) × IsUnopened before after (behind rs (kept_record kept (record_taken pad now first))) pad b
 
+-- what is shown of an opening behind a crash, where the journal has room, or hasn't
+abbrev pub shows_start_if : Option Name → PadState → Option PadBad → Shown
+shows_start_if n pad None = shows_opening pad
+shows_start_if n pad (Some b) = pad_refuses verb.Crash n b
+
 module _ {D : Type 0} (told_by : D → Option Contents) (failures : D → ℕ) (stops_alone : D → Bool) (alone : Bool) where
-  -- a machine that was started again is open; what a record that was pending came to, the disk decided
+  -- a pad with these records is started again: its opening is kept behind them; or they have no room for that, and it is shut
+  abbrev pub Starts : List Record → PadState → Held D → Type 0
+  Starts rs pad new =
+      ((unopened rs pad ≡ None) × IsOpenAt told_by failures stops_alone alone (rs ++ opening pad ∷ []) new (reopened pad))
+      ⊎ ((n : ℕ) × (unopened rs pad ≡ Some (bad.JournalFull n)) × IsShutAt told_by failures stops_alone alone rs new (reopened pad))
+
+  -- a machine was started again; what a record that was pending came to, the disk decided
   abbrev pub Reopens : MachineState → Held D → Type 0
-  Reopens st new = (kept : Bool) × IsAt told_by failures stops_alone alone ((settled kept st).records ++ opening (settled kept st).pad ∷ []) new (reopened (settled kept st).pad)
+  Reopens st new = (kept : Bool) × Starts (settled kept st).records (settled kept st).pad new
 
   -- a take that was broken off, where there was a message, is settled as one whose record was kept, or as none; and the
-  -- machine is open again. Of a disk that fails in a stop alone the image that was asked for decides.
+  -- machine was started again. Of a disk that fails in a stop alone the image that was asked for decides.
   abbrev pub BreaksOff : List Record → PadState → ℕ → Option (Session × Message) → ℕ → Image → Held D → Type 0
   BreaksOff rs pad now first calls image new =
-      (kept : Bool) × IsAt told_by failures stops_alone alone (journal_broken rs pad now first kept) new (reopened (broken_by pad now first kept))
+      (kept : Bool) × Starts (journal_broken rs pad now first kept) (broken_by pad now first kept) new
       × (alone ≡ true → kept ≡ keeps_record rs pad now first calls image)
+
+-- what is shown of an opening behind a crash, of a name or none
+abbrev pub shows_start : Option Name → List Record → PadState → Shown
+shows_start n rs pad = shows_start_if n pad (full_in rs pad None)

@@ -2,7 +2,9 @@
 
 ghost use Rattle.std.specs.Prelude.{◌≡◌};
 ghost use Rattle.std.specs.Option.{option_map};
-ghost use Rattle.ep_world.specs.Failing.{failed, shown_or_failed};
+ghost use Rattle.ep_history.specs.declared.pad_bad.PadBad.TheVariants as pad_bad;
+ghost use Rattle.ep_world.specs.Failing.{failed, failed_opening, shown_or_failed};
+ghost use Rattle.ep_world.specs.Shows.{pad_refuses};
 
 use ep_event::{Reason, Shown, Verb};
 use ep_history::PadBad;
@@ -18,7 +20,8 @@ pub enum WorldBad {
     /// In a text half of a surrogate pair stands alone.
     #[error("half of a surrogate pair stands alone")]
     NoText,
-    /// The journal would have so many bytes with the record of an opening.
+    /// The journal would have so many bytes with the record of an opening: the first one, or that behind a take that a crash
+    /// came into.
     #[error("the journal would have {0} bytes")]
     Full(u64),
     /// The store failed: its count of faults is this now.
@@ -39,15 +42,36 @@ impl From<NoMemory> for WorldBad {
     }
 }
 
-/// What ends a world: the store failed, the journal has no room for an opening, or memory is wanting. By the rules no
-/// other refusal comes where this is asked; one would be answered as want of memory.
+/// What ends a world: the store failed, or memory is wanting. By the rules no other refusal comes where this is asked; one
+/// would be answered as want of memory.
 pub(crate) fn failure(bad: PadBad) -> WorldBad
     ensures { result ≡ failed bad }
 {
     match bad {
         PadBad::Store(count) => WorldBad::Store(count),
+        _ => WorldBad::NoMemory,
+    }
+}
+
+/// Why nothing is opened: the same, or the journal has no room.
+pub(crate) fn opening_failure(bad: PadBad) -> WorldBad
+    ensures { result ≡ failed_opening bad }
+{
+    match bad {
+        PadBad::Store(count) => WorldBad::Store(count),
         PadBad::JournalFull(bytes) => WorldBad::Full(bytes),
         _ => WorldBad::NoMemory,
+    }
+}
+
+/// What is asked is refused, since the journal has no room: it would have so many bytes.
+pub(crate) fn full(verb: Verb, name: Option<Units>, bytes: u64) -> Shown
+    ensures { result ≡ pad_refuses verb name (pad_bad.JournalFull bytes) }
+{
+    Shown::Refused {
+        verb,
+        name,
+        why: Reason::Pad(PadBad::JournalFull(bytes)),
     }
 }
 

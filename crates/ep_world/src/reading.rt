@@ -7,6 +7,8 @@ ghost use Rattle.ep_history.specs.Pad.{PadState};
 ghost use Rattle.ep_schedule.specs.Kepts.{Kepts};
 ghost use Rattle.ep_schedule.specs.World.{WorldState};
 ghost use Rattle.ep_event.specs.declared.shown.Shown.TheVariants as shown;
+ghost use Rattle.ep_event.specs.declared.shown.Verb.TheVariants as verb;
+ghost use Rattle.ep_world.specs.Journal.{reads_as};
 ghost use Rattle.ep_world.specs.Counting.{Counts};
 ghost use Rattle.ep_world.specs.declared.bad.WorldBad.TheVariants as wanting;
 ghost use Rattle.ep_world.specs.Failing.{IsFailure};
@@ -16,7 +18,7 @@ ghost use Rattle.ep_world.specs.Standing.{IsAt, IsRun, StandsFor};
 ghost use Rattle.ep_history.specs.declared.record.Record.{Record};
 
 use crate::actors::Actor;
-use crate::bad::{WorldBad, failure};
+use crate::bad::{WorldBad, failure, full};
 use crate::world::World;
 use ep_apply::Doc;
 use ep_client::Client;
@@ -26,6 +28,15 @@ use ep_outside::{Crash, Disk};
 use ep_pad::PadMachine;
 use ep_units::Units;
 use std::alloc::Global;
+
+/// What is found of the head.
+#[derive(Drop)]
+pub(crate) enum Top {
+    There(u64, Doc),
+    Gone,
+    /// The journal has no room for an opening: it would have so many bytes.
+    Shut(u64),
+}
 
 impl<D: Crash> World<D> {
     /// The client of a name, where there is one.
@@ -60,32 +71,35 @@ impl<D: Crash> World<D> {
 
     /// The head.
     pub fn head(&mut self) -> Result<Shown, WorldBad>
-        ensures { (alone : Bool) (rs : List Record) (w : WorldState) (ks : Kepts) → StandsFor D.told D.failures D.stops_alone alone rs self.old w ks → ShowsPad D.told D.failures D.stops_alone alone rs (D.failures self.old.machine.disk) w ks (shows_head w.pad) result self.new }
+        ensures { (alone : Bool) (rs : List Record) (w : WorldState) (ks : Kepts) → StandsFor D.told D.failures D.stops_alone alone rs self.old w ks → ShowsPad D.told D.failures D.stops_alone alone rs (D.failures self.old.machine.disk) w ks (reads_as rs w.pad verb.Head (shows_head w.pad)) result self.new }
     {
         match head(&mut self.machine)? {
-            Some((rev, doc)) => Ok(Shown::Head { rev, doc }),
-            None => Ok(Shown::Gone { verb: Verb::Head }),
+            Top::There(rev, doc) => Ok(Shown::Head { rev, doc }),
+            Top::Gone => Ok(Shown::Gone { verb: Verb::Head }),
+            Top::Shut(bytes) => Ok(full(Verb::Head, None, bytes)),
         }
     }
 
     /// The attributes of the head.
     pub fn marks(&mut self) -> Result<Shown, WorldBad>
-        ensures { (alone : Bool) (rs : List Record) (w : WorldState) (ks : Kepts) → StandsFor D.told D.failures D.stops_alone alone rs self.old w ks → ShowsPad D.told D.failures D.stops_alone alone rs (D.failures self.old.machine.disk) w ks (shows_marks w.pad) result self.new }
+        ensures { (alone : Bool) (rs : List Record) (w : WorldState) (ks : Kepts) → StandsFor D.told D.failures D.stops_alone alone rs self.old w ks → ShowsPad D.told D.failures D.stops_alone alone rs (D.failures self.old.machine.disk) w ks (reads_as rs w.pad verb.Marks (shows_marks w.pad)) result self.new }
     {
         match head(&mut self.machine)? {
-            Some((rev, doc)) => Ok(Shown::HeadMarks { rev, doc }),
-            None => Ok(Shown::Gone { verb: Verb::Marks }),
+            Top::There(rev, doc) => Ok(Shown::HeadMarks { rev, doc }),
+            Top::Gone => Ok(Shown::Gone { verb: Verb::Marks }),
+            Top::Shut(bytes) => Ok(full(Verb::Marks, None, bytes)),
         }
     }
 
     /// The document of a revision.
     pub fn text(&mut self, rev: u64) -> Result<Shown, WorldBad>
-        ensures { (alone : Bool) (rs : List Record) (w : WorldState) (ks : Kepts) → StandsFor D.told D.failures D.stops_alone alone rs self.old w ks → ShowsPad D.told D.failures D.stops_alone alone rs (D.failures self.old.machine.disk) w ks (shows_text w.pad rev) result self.new }
+        ensures { (alone : Bool) (rs : List Record) (w : WorldState) (ks : Kepts) → StandsFor D.told D.failures D.stops_alone alone rs self.old w ks → ShowsPad D.told D.failures D.stops_alone alone rs (D.failures self.old.machine.disk) w ks (reads_as rs w.pad verb.Text (shows_text w.pad rev)) result self.new }
     {
         match self.machine.text(Some(rev)) {
             Ok(doc) => Ok(Shown::Text { rev, doc }),
             Err(PadBad::Gone) => Ok(Shown::TextGone { rev }),
             Err(PadBad::NoRev(head)) => Ok(Shown::NoRev { rev, head }),
+            Err(PadBad::JournalFull(bytes)) => Ok(full(Verb::Text, None, bytes)),
             Err(bad) => Err(failure(bad)),
         }
     }
@@ -114,17 +128,18 @@ fn show_marks(alloc: Global, client: &Client, name: Units) -> Result<Shown, Worl
 }
 
 /// The head with its document, where the pad is there.
-fn head<D: Disk>(machine: &mut PadMachine<D>) -> Result<Option<(u64, Doc)>, WorldBad>
+fn head<D: Disk>(machine: &mut PadMachine<D>) -> Result<Top, WorldBad>
     ensures told { (alone : Bool) (rs : List Record) (pad : PadState) → IsAt D.told D.failures D.stops_alone alone rs machine.old pad → TellsHead D.told D.failures D.stops_alone alone rs pad result machine.new }
     ensures failed { IfErr result IsFailure }
     ensures counts { (alone : Bool) (rs : List Record) (pad : PadState) → IsAt D.told D.failures D.stops_alone alone rs machine.old pad → Counts (D.failures machine.old.disk) (D.failures machine.new.disk) result }
 {
     match machine.status() {
         Ok(status) => match machine.text(None) {
-            Ok(doc) => Ok(Some((status.head, doc))),
+            Ok(doc) => Ok(Top::There(status.head, doc)),
             Err(bad) => Err(failure(bad)),
         },
-        Err(PadBad::Gone) => Ok(None),
+        Err(PadBad::Gone) => Ok(Top::Gone),
+        Err(PadBad::JournalFull(bytes)) => Ok(Top::Shut(bytes)),
         Err(bad) => Err(failure(bad)),
     }
 }

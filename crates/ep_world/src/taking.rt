@@ -1,6 +1,6 @@
 //! The server takes messages.
 
-ghost use Rattle.std.specs.Prelude.{◌≡◌, ℕ, Bool, List, true, Some, MatchResult};
+ghost use Rattle.std.specs.Prelude.{◌≡◌, ℕ, Bool, List, true, not, Some, MatchResult};
 ghost use Rattle.ep_cs.specs.EditFits.{is_edit};
 ghost use Rattle.ep_history.specs.Pad.{PadState, leave};
 ghost use Rattle.ep_schedule.specs.World.{Message, Conn as AConn, Member as AMember, WorldState};
@@ -11,6 +11,7 @@ ghost use Rattle.ep_world.specs.Actors.{member_of};
 ghost use Rattle.ep_world.specs.Conns.{conn_of, sent_of};
 ghost use Rattle.ep_world.specs.Counting.{Counts};
 ghost use Rattle.ep_world.specs.Failing.{IsFailure};
+ghost use Rattle.ep_world.specs.Journal.{is_shut};
 ghost use Rattle.ep_world.specs.Standing.{Comes, Ends, IsAt, Plays, StandsBut};
 ghost use Rattle.ep_step.specs.Telling.{told_by};
 ghost use Rattle.ep_event.specs.declared.shown.Shown.TheVariants as shown;
@@ -19,7 +20,7 @@ ghost use Rattle.ep_world.specs.Taking.{Brings, Settles, closing_of, closing_wor
 ghost use Rattle.ep_history.specs.declared.record.Record.{Record};
 
 use crate::actors::Actor;
-use crate::bad::{WorldBad, failure};
+use crate::bad::{WorldBad, failure, full};
 use crate::conn::Conn;
 use crate::member::Member;
 use crate::message::Sent;
@@ -38,6 +39,8 @@ pub(crate) enum Took {
     Refused(Reason),
     /// The journal would have so many bytes.
     NoRoom(u64),
+    /// It would have so many with the opening of a pad that is shut.
+    Shut(u64),
 }
 
 impl<D: Crash> World<D> {
@@ -156,13 +159,15 @@ fn leave_unless_made<D: Disk>(
     match took {
         Took::Made(made) => Ok(Took::Made(made)),
         Took::Refused(why) => match give_leave(machine, session) {
-            Ok(()) => Ok(Took::Refused(why)),
+            Ok(_) => Ok(Took::Refused(why)),
             Err(bad) => Err(bad),
         },
         Took::NoRoom(bytes) => match give_leave(machine, session) {
-            Ok(()) => Ok(Took::NoRoom(bytes)),
+            Ok(true) => Ok(Took::NoRoom(bytes)),
+            Ok(false) => Ok(Took::Shut(bytes)),
             Err(bad) => Err(bad),
         },
+        Took::Shut(bytes) => Ok(Took::Shut(bytes)),
     }
 }
 
@@ -214,15 +219,16 @@ fn not_made(bad: PadBad) -> Result<Took, WorldBad>
     }
 }
 
-/// A session whose message isn't taken is left, if it was live.
-fn give_leave<D: Disk>(machine: &mut PadMachine<D>, session: Session) -> Result<(), WorldBad>
+/// A session whose message isn't taken is left, if it was live; and whether the pad is open. One that is shut has no session.
+fn give_leave<D: Disk>(machine: &mut PadMachine<D>, session: Session) -> Result<bool, WorldBad>
     ensures leaves { (alone : Bool) (rs : List Record) (pad : PadState) → IsAt D.told D.failures D.stops_alone alone rs machine.old pad
-        → MatchResult result (λ _. IsAt D.told D.failures D.stops_alone alone rs machine.new (leave pad session)) IsFailure }
+        → MatchResult result (λ is_open. (is_open ≡ not (is_shut rs pad)) × IsAt D.told D.failures D.stops_alone alone rs machine.new (leave pad session)) IsFailure }
     ensures counts { (alone : Bool) (rs : List Record) (pad : PadState) → IsAt D.told D.failures D.stops_alone alone rs machine.old pad → Counts (D.failures machine.old.disk) (D.failures machine.new.disk) result }
 {
     match machine.leave(session) {
-        Ok(()) => Ok(()),
-        Err(PadBad::Dead(_)) => Ok(()),
+        Ok(()) => Ok(true),
+        Err(PadBad::Dead(_)) => Ok(true),
+        Err(PadBad::JournalFull(_)) => Ok(false),
         Err(bad) => Err(failure(bad)),
     }
 }
@@ -248,6 +254,7 @@ impl Took {
             Took::Made(_) => None,
             Took::Refused(why) => Some(closing_word(why)),
             Took::NoRoom(_) => Some(Ended::Full),
+            Took::Shut(_) => Some(Ended::BadChangeset),
         }
     }
 
@@ -257,18 +264,19 @@ impl Took {
         match self {
             Took::Made(made) => show_made(verb, name, made),
             Took::Refused(why) => refuse(verb, name, why),
-            Took::NoRoom(bytes) => refuse(verb, name, Reason::Pad(PadBad::JournalFull(bytes))),
+            Took::NoRoom(bytes) | Took::Shut(bytes) => full(verb, Some(name), bytes),
         }
     }
 
-    /// The session of a late message has ended, so that by the rules it is refused before the journal is asked.
+    /// The session of a late message has ended, so that by the rules it is refused before the journal is asked; and nothing is
+    /// late where the pad is shut. One for which there is no room would be answered as want of memory.
     fn show_late(self, name: Units) -> Result<Shown, WorldBad>
         ensures { result ≡ shows_late name self }
     {
         match self {
             Took::Made(made) => Ok(show_made(Verb::Late, name, made)),
             Took::Refused(why) => Ok(refuse(Verb::Late, name, why)),
-            Took::NoRoom(bytes) => Err(WorldBad::Full(bytes)),
+            Took::NoRoom(_) | Took::Shut(_) => Err(WorldBad::NoMemory),
         }
     }
 }

@@ -6,10 +6,10 @@ ghost use Rattle.ep_schedule.specs.World.{WorldState, start};
 ghost use Rattle.ep_schedule.specs.Kepts.{Kepts, nobodies};
 ghost use Rattle.ep_pad_file.specs.Standing.{Holds};
 ghost use Rattle.ep_world.specs.Journal.{begun};
-ghost use Rattle.ep_world.specs.Standing.{Ends, IsAt, IsUnbegun, Plays, StandsFor};
+ghost use Rattle.ep_world.specs.Standing.{Ends, IsLent, IsUnbegun, Plays, StandsFor};
 
 use crate::actors::Actors;
-use crate::bad::{WorldBad, failure};
+use crate::bad::{WorldBad, opening_failure};
 use ep_event::{Event, Shown};
 use ep_outside::{Crash, Limits, Refused};
 use ep_pad::PadMachine;
@@ -50,7 +50,7 @@ impl<D: Crash> World<D> {
                 machine,
                 actors: Actors::new(alloc),
             }),
-            Err(Refused { back: _, why }) => Err(failure(why)),
+            Err(Refused { back: _, why }) => Err(opening_failure(why)),
         }
     }
 
@@ -83,7 +83,7 @@ impl<D: Crash> World<D> {
     pub fn pad(&self) -> &PadMachine<D>
         ensures lends { result.now ≡ self.now.machine }
         ensures stands { (alone : Bool) (rs : List Record) (w : WorldState) (ks : Kepts) → StandsFor D.told D.failures D.stops_alone alone rs self.now w ks
-            → IsAt D.told D.failures D.stops_alone alone rs result.now w.pad × Holds (D.told result.now.disk) rs }
+            → IsLent D.told D.failures D.stops_alone alone rs result.now w.pad }
     {
         &self.machine
     }

@@ -17,3 +17,5 @@ mod scripts;
 mod shown;
 #[cfg(test)]
 mod told;
+#[cfg(test)]
+mod worlds;

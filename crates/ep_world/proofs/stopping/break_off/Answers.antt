@@ -55,6 +55,6 @@ returns-in-Ok-accept_stopped-clause-counts g c = λ alone rs pad message e a.
 
 pub returns-in-Err-clause-counts : goal.returns-in-Err-clause-counts
 returns-in-Err-clause-counts g c = λ alone rs pad message e a.
-    rw c.failure.ensures
+    rw c.opening_failure.ensures
     (breaks-fails g.D.Disk.told g.D.Device.failures g.D.Disk.stops_alone alone rs c.args.machine.now c.accept_stopped.new.self pad c.args.now message c.args.first c.in-Some.session c.in-Some.sent c.in-Ok.change c.in-Err.bad e c.in-Some.is c.in-Ok.is
     c.ops-normal.ensures.normal a (λ m. c.in-Err.ensures.stops a.state a.kept a.stands m))

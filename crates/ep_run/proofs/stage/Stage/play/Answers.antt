@@ -3,6 +3,8 @@ use Rattle.ep_script.specs.declared.line.Line.TheVariants as line
 use Rattle.ep_world.specs.Shows.{shows_head, shows_marks, shows_text}
 use Rattle.ep_run.specs.Stops.{stop_of_world}
 use Rattle.ep_run.proofs.Lines.{plays-as, event-fails, inject-fails, put-fails, view_told, view_untold, marks_told, marks_untold, reading_fails}
+use Rattle.ep_event.specs.declared.shown.Verb.TheVariants as verb
+use Rattle.ep_world.specs.Journal.{reads_as}
 use Rattle.ep_run.proofs.stage.Stage.play.Goals as goal
 
 pub returns-in_err-step-in-Event : goal.returns-in_err-step-in-Event
@@ -39,7 +41,7 @@ pub returns-in_err-head-in-Head : goal.returns-in_err-head-in-Head
 returns-in_err-head-in-Head g c = λ s is.
     let bad = c.in_err-head-in-Head.field-0.0 in
     rw c.in-Head.is (plays-as g.D.Disk.told g.D.Device.failures g.D.Disk.stops_alone c.args.k s line.Head _ c.from_residual-in_err-head-in-Head.result (Err (stop_of_world bad)) (search rules)
-    (reading_fails g.D.Disk.told g.D.Device.failures g.D.Disk.stops_alone c.args.k s s.journal (g.D.Device.failures c.args.self.now.world.machine.disk) s.world s.kepts (shows_head s.world.pad) line.Head bad c.head.new.self _ (c.in_err-head-in-Head.ensures true s.journal s.world s.kepts is.world)))
+    (reading_fails g.D.Disk.told g.D.Device.failures g.D.Disk.stops_alone c.args.k s s.journal (g.D.Device.failures c.args.self.now.world.machine.disk) s.world s.kepts (reads_as s.journal s.world.pad verb.Head (shows_head s.world.pad)) line.Head bad c.head.new.self _ (c.in_err-head-in-Head.ensures true s.journal s.world s.kepts is.world)))
 
 pub returns-in_ok-head-in-Head : goal.returns-in_ok-head-in-Head
 returns-in_ok-head-in-Head g c = λ s is.
@@ -50,7 +52,7 @@ pub returns-in_err-text-in-Text : goal.returns-in_err-text-in-Text
 returns-in_err-text-in-Text g c = λ s is.
     let bad = c.in_err-text-in-Text.field-0.0 in
     rw c.in-Text.is (plays-as g.D.Disk.told g.D.Device.failures g.D.Disk.stops_alone c.args.k s (line.Text c.in-Text.rev) _ c.from_residual-in_err-text-in-Text.result (Err (stop_of_world bad)) (search rules)
-    (reading_fails g.D.Disk.told g.D.Device.failures g.D.Disk.stops_alone c.args.k s s.journal (g.D.Device.failures c.args.self.now.world.machine.disk) s.world s.kepts (shows_text s.world.pad c.in-Text.rev) (line.Text c.in-Text.rev) bad c.text-in-Text.new.self _ (c.in_err-text-in-Text.ensures true s.journal s.world s.kepts is.world)))
+    (reading_fails g.D.Disk.told g.D.Device.failures g.D.Disk.stops_alone c.args.k s s.journal (g.D.Device.failures c.args.self.now.world.machine.disk) s.world s.kepts (reads_as s.journal s.world.pad verb.Text (shows_text s.world.pad c.in-Text.rev)) (line.Text c.in-Text.rev) bad c.text-in-Text.new.self _ (c.in_err-text-in-Text.ensures true s.journal s.world s.kepts is.world)))
 
 pub returns-in_ok-text-in-Text : goal.returns-in_ok-text-in-Text
 returns-in_ok-text-in-Text g c = λ s is.
@@ -61,7 +63,7 @@ pub returns-in_err-marks-in-Marks : goal.returns-in_err-marks-in-Marks
 returns-in_err-marks-in-Marks g c = λ s is.
     let bad = c.in_err-marks-in-Marks.field-0.0 in
     rw c.in-Marks.is (plays-as g.D.Disk.told g.D.Device.failures g.D.Disk.stops_alone c.args.k s line.Marks _ c.from_residual-in_err-marks-in-Marks.result (Err (stop_of_world bad)) (search rules)
-    (reading_fails g.D.Disk.told g.D.Device.failures g.D.Disk.stops_alone c.args.k s s.journal (g.D.Device.failures c.args.self.now.world.machine.disk) s.world s.kepts (shows_marks s.world.pad) line.Marks bad c.marks.new.self _ (c.in_err-marks-in-Marks.ensures true s.journal s.world s.kepts is.world)))
+    (reading_fails g.D.Disk.told g.D.Device.failures g.D.Disk.stops_alone c.args.k s s.journal (g.D.Device.failures c.args.self.now.world.machine.disk) s.world s.kepts (reads_as s.journal s.world.pad verb.Marks (shows_marks s.world.pad)) line.Marks bad c.marks.new.self _ (c.in_err-marks-in-Marks.ensures true s.journal s.world s.kepts is.world)))
 
 pub returns-in_ok-marks-in-Marks : goal.returns-in_ok-marks-in-Marks
 returns-in_ok-marks-in-Marks g c = λ s is.

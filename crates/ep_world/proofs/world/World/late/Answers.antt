@@ -11,7 +11,7 @@ use Rattle.ep_world.proofs.Seating.{is-named, lent}
 use Rattle.ep_world.proofs.Takes.{fails, late-nothing, late-took}
 use Rattle.ep_world.specs.Counting.{Counts}
 use Rattle.ep_world.proofs.Counting.{as-err, caused-ends, memory-caused}
-use Rattle.ep_world.proofs.Refusing.{good-of, late-ends, refused-late}
+use Rattle.ep_world.proofs.Refusing.{late-ends}
 use Rattle.ep_world.proofs.world.World.late.Goals as goal
 
 pub returns-in_default-clause-plays : goal.returns-in_default-clause-plays
@@ -51,14 +51,7 @@ returns-in-Err-clause-ends g c = λ alone rs w ks run s.
 
 pub returns-clause-ends : goal.returns-clause-ends
 returns-clause-ends g c = λ alone rs w ks run s.
-    let m = c.in_ok-member.ensures.taken in
-    let x = is-named (w.actors c.args.name) (ks c.args.name) c.in_ok-member.member (sym (s.actors c.args.name) ∙ m.0) in
-    let l = late-some x.0 (ks c.args.name) (c.in-Some.session, c.in-Some.sent) c.late.new.self (subst (λ y. TakesLate y (Some (c.in-Some.session, c.in-Some.sent)) c.late.new.self) x.2 (subst (λ o. TakesLate c.in_ok-member.member o c.late.new.self) c.in-Some.is c.late.ensures)) in
-    let b = subst (λ r. MatchResult r (Brings g.D.Disk.told g.D.Device.failures g.D.Disk.stops_alone alone rs w.pad c.in-Some.session l.message.msg c.args.now c.bring.new.machine) IsFailure) c.in-Ok.is (c.bring.ensures.brings alone rs w.pad l.message.msg l.message.sent s.machine) in
-    let refused = refused-late w (good-of w ks run) c.args.name x.0 l.conn l.message.msg x.1 l.before in
-    rw c.show_late.ensures
-    (late-ends g.D.Disk.told g.D.Device.failures g.D.Disk.stops_alone alone rs w.pad l.conn.session l.message.msg c.args.now c.bring.new.machine c.args.name c.in-Ok.took _ refused
-    (subst (λ y. Brings g.D.Disk.told g.D.Device.failures g.D.Disk.stops_alone alone rs w.pad y l.message.msg c.args.now c.bring.new.machine c.in-Ok.took) l.session b))
+    rw c.show_late.ensures (late-ends c.args.name c.in-Ok.took _ tt)
 
 pub returns-in_err-member-clause-ends : goal.returns-in_err-member-clause-ends
 returns-in_err-member-clause-ends g c = λ alone rs w ks run s.

@@ -1,24 +1,36 @@
-use Rattle.std.proofs.Common.{refl, rules}
+use Rattle.std.proofs.Common.{◌∙◌, refl, rules, subst}
+use Rattle.ep_event.specs.declared.shown.Verb.TheVariants as verb
 use Rattle.ep_world.specs.declared.world.World.{World}
-use Rattle.ep_world.proofs.Showing.{gone-shows, head-shows, reads-stands}
+use Rattle.ep_world.specs.Reading.{IsTop}
+use Rattle.ep_world.specs.Shows.{shows_marks}
+use Rattle.ep_world.proofs.Showing.{gone-reads, head-reads, reads-shut, reads-stands}
 use Rattle.ep_world.proofs.Counting.{as-err}
 use Rattle.ep_world.proofs.world.World.marks.Goals as goal
 
-pub returns-in-Some : goal.returns-in-Some
-returns-in-Some g c = λ alone rs w ks s.
+pub returns-in-There : goal.returns-in-There
+returns-in-There g c = λ alone rs w ks s.
     let h = c.in_ok-rev.ensures.told alone rs w.pad s.machine in
     let old = c.args.self.now in
     let new : World g.row.D.Denot = record { alloc = old.alloc; id = old.id; machine = c.head.new.machine; actors = old.actors } in (
-      (head-shows g.D.Disk.told g.D.Device.failures g.D.Disk.stops_alone alone rs w c.in_ok-rev.field-0 h.0 c.in-Some.rev c.in-Some.doc c.in-Some.is).1,
+      (head-reads g.D.Disk.told g.D.Device.failures g.D.Disk.stops_alone alone rs w c.in-There.field-0 c.in-There.field-1 (subst (IsTop rs w.pad) c.in-There.is h.0)).1,
       reads-stands g.D.Disk.told g.D.Device.failures g.D.Disk.stops_alone alone rs old new w ks s h.1 refl refl,
     )
 
-pub returns-in-None : goal.returns-in-None
-returns-in-None g c = λ alone rs w ks s.
+pub returns-in-Gone : goal.returns-in-Gone
+returns-in-Gone g c = λ alone rs w ks s.
     let h = c.in_ok-rev.ensures.told alone rs w.pad s.machine in
     let old = c.args.self.now in
     let new : World g.row.D.Denot = record { alloc = old.alloc; id = old.id; machine = c.head.new.machine; actors = old.actors } in (
-      (gone-shows g.D.Disk.told g.D.Device.failures g.D.Disk.stops_alone alone rs w c.in_ok-rev.field-0 h.0 c.in-None.is).1,
+      (gone-reads g.D.Disk.told g.D.Device.failures g.D.Disk.stops_alone alone rs w (subst (IsTop rs w.pad) c.in-Gone.is h.0)).1,
+      reads-stands g.D.Disk.told g.D.Device.failures g.D.Disk.stops_alone alone rs old new w ks s h.1 refl refl,
+    )
+
+pub returns-in-Shut : goal.returns-in-Shut
+returns-in-Shut g c = λ alone rs w ks s.
+    let h = c.in_ok-rev.ensures.told alone rs w.pad s.machine in
+    let old = c.args.self.now in
+    let new : World g.row.D.Denot = record { alloc = old.alloc; id = old.id; machine = c.head.new.machine; actors = old.actors } in (
+      c.full.ensures ∙ reads-shut g.D.Disk.told g.D.Device.failures g.D.Disk.stops_alone alone rs w.pad verb.Marks (shows_marks w.pad) c.in-Shut.bytes (subst (IsTop rs w.pad) c.in-Shut.is h.0),
       reads-stands g.D.Disk.told g.D.Device.failures g.D.Disk.stops_alone alone rs old new w ks s h.1 refl refl,
     )
 

@@ -23,4 +23,4 @@ returns-in-Err-clause-ends g c =
     let why = c.in-Err.field-0.why in
     let r : IsRefused g.D.Disk.told g.D.Device.failures c.args.limits c.args.disk back why =
     subst (λ r. IfErr r (λ x. IsRefused g.D.Disk.told g.D.Device.failures c.args.limits c.args.disk x.back x.why)) c.in-Err.is c.open.ensures.refused in
-    rw c.failure.ensures (unbegun g.D.Disk.told g.D.Device.failures c.args.disk back c.args.limits c.args.id why r)
+    rw c.opening_failure.ensures (unbegun g.D.Disk.told g.D.Device.failures c.args.disk back c.args.limits c.args.id why r)
