@@ -12,7 +12,7 @@ returns-in-There g c = λ alone rs w ks s.
     let h = c.in_ok-rev.ensures.told alone rs w.pad s.machine in
     let old = c.args.self.now in
     let new : World g.row.D.Denot = record { alloc = old.alloc; id = old.id; machine = c.head.new.machine; actors = old.actors } in (
-      (head-reads g.D.Disk.told g.D.Device.failures g.D.Disk.stops_alone alone rs w c.in-There.field-0 c.in-There.field-1 (subst (IsTop rs w.pad) c.in-There.is h.0)).1,
+      (head-reads g.D.Disk.told g.D.Device.failures g.D.Disk.stops_alone alone rs w c.in-There.rev c.in-There.doc (subst (IsTop rs w.pad) c.in-There.is h.0)).1,
       reads-stands g.D.Disk.told g.D.Device.failures g.D.Disk.stops_alone alone rs old new w ks s h.1 refl refl,
     )
 
