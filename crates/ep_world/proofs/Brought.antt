@@ -40,7 +40,7 @@ use Rattle.ep_world.specs.declared.taking.Took.TheVariants as took
 use Rattle.ep_world.specs.Failing.{IsFailure, failed}
 use Rattle.ep_world.specs.Journal.{behind, full_by, full_in, is_shut, record_in, unopened}
 use Rattle.ep_world.specs.Standing.{IsAnswered, IsAt, answer_of, pad_after}
-use Rattle.ep_world.proofs.Shut.{open-full, open-shut, opens-free, shut-full, shut-seat, shut-shut}
+use Rattle.ep_world.proofs.Shut.{open-full, open-shut, opens-free, shut-seat, shut-shut}
 use Rattle.ep_world.specs.Taking.{Brings, IsFull, IsShut, not_made}
 
 -- ---- refusals

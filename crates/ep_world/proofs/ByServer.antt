@@ -1,5 +1,5 @@
 -- Events that the pad alone answers.
-use Rattle.std.proofs.Common.{◌≡◌, ℕ, Bool, List, true, Option, Some, None, Result, Ok, Err, inl, inr, if◌then◌else◌, refl, sym, ap, ◌∙◌, subst}
+use Rattle.std.proofs.Common.{◌≡◌, ℕ, Bool, List, true, Option, Some, None, Result, Ok, Err, if◌then◌else◌, refl, sym, ap, ◌∙◌, subst}
 use Rattle.ep_units.specs.Text.{Text, is_well_formed}
 use Rattle.ep_cs.specs.Change.{Change}
 use Rattle.ep_outside.specs.Disk.{Contents}

@@ -1,28 +1,21 @@
 -- The count of faults of a machine's disk over a call, and why a call fails.
-use Rattle.std.proofs.Common.{◌≡◌, ℕ, ◌≤◌, ◌<◌, ◌-◌, ◌^◌, Bool, true, false, List, [], ◌∷◌, Option, Some, None, Result, Ok, Err, inl, inr, ◌⊎◌, if◌then◌else◌, refl, sym, ap, ◌∙◌, subst, arith}
+use Rattle.std.proofs.Common.{◌≡◌, ℕ, ◌≤◌, ◌<◌, ◌-◌, ◌^◌, Bool, true, false, List, Option, Some, None, Result, Ok, Err, inl, inr, ◌⊎◌, refl, sym, ap, ◌∙◌, subst, arith}
 use Rattle.std.specs.Prelude.{IfErr, MatchResult}
 use Rattle.ep_units.specs.declared.session.Session.{Session}
 use Rattle.ep_outside.specs.Disk.{Contents}
-use Rattle.ep_cs.specs.Change.{Change}
-use Rattle.ep_cs.specs.declared.bad.FitBad.{FitBad}
-use Rattle.ep_history.specs.Accept.{author_fault, edit_faults, fit_fault, live_fault, refusal, seat_fault}
-use Rattle.ep_history.specs.Entries.{Answer, Entry, Outcome, Reply, is_recordable, logs_in, outcome, unless}
+use Rattle.ep_history.specs.Entries.{Answer, Entry, Outcome, Reply, is_recordable, outcome, unless}
 use Rattle.ep_history.specs.Entries.Answer.{FetchAnswer}
-use Rattle.ep_history.specs.Entries.Entry.{Login, Resume, Accept, Fetch, Leave, Create, SetText, Delete, SetPublic, ReadText, ReadHistory, ReadStatus}
+use Rattle.ep_history.specs.Entries.Entry.{Fetch, ReadStatus}
 use Rattle.ep_history.specs.Entries.Outcome.{Refuses, Answers, Records}
-use Rattle.ep_history.specs.Machine.{MachineState, IsClosedStep, IsFoundStep, IsKeptState, IsOpenStep, IsStep, IsStepAs, IsThen, journal_fault, keeping, open_record, reopening, settled, turn_of}
+use Rattle.ep_history.specs.Machine.{MachineState, IsClosedStep, IsFoundStep, IsKeptState, IsOpenStep, IsStepAs, IsThen, journal_fault, keeping, open_record, reopening, settled, turn_of}
 use Rattle.ep_history.specs.Machine.IsOpenStep.{Does, Lacks, Fails}
 use Rattle.ep_history.specs.Machine.IsFoundStep.{Opens, IsFull, FailsOpened}
 use Rattle.ep_history.specs.Machine.IsClosedStep.{Finds, LacksOpening, FailsOpening}
-use Rattle.ep_history.specs.Pad.{PadState, seat_of}
-use Rattle.ep_history.specs.Readings.{dead_fault, dead_if, fetch_fault, fetch_faults, history_fault, history_faults, text_fault, text_faults}
-use Rattle.ep_history.specs.Refusals.{fault_if, first_fault, login_fault, login_faults, resume_fault, resume_faults}
-use Rattle.ep_history.specs.Server.{create_fault, create_faults, gone_fault, set_fault, set_faults}
+use Rattle.ep_history.specs.Pad.{PadState}
+use Rattle.ep_history.specs.Server.{gone_fault}
 use Rattle.ep_history.specs.declared.pad_bad.PadBad.{PadBad}
 use Rattle.ep_history.specs.declared.pad_bad.PadBad.TheVariants as bad
 use Rattle.ep_history.specs.declared.record.Record.{Record}
-use Rattle.ep_history.specs.declared.seat.Seat.{Seat}
-use Rattle.ep_history.specs.declared.seat.Why.{Why}
 use Rattle.ep_pad.specs.Crashes.{IsStepOfFirst}
 use Rattle.ep_pad.specs.Held.{Held}
 use Rattle.ep_pad.specs.Opening.{HasRisenTo, Sleeps}
@@ -41,7 +34,7 @@ use Rattle.ep_world.specs.Failing.{IsCaused, failed, shown_or_failed}
 use Rattle.ep_world.specs.Standing.{IsAt, IsEnded, Said}
 use Rattle.ep_world.specs.Taking.{not_made}
 use Rattle.ep_world.proofs.Calls.{MakesMarked, journal-full}
-use Rattle.ep_world.proofs.Plain.{IsPlain, IsPlainIf, IsPlainOutcome, dead-plain, first-plain, if-plain, outcome-plain}
+use Rattle.ep_world.proofs.Plain.{IsPlain, IsPlainIf, IsPlainOutcome, if-plain, outcome-plain}
 use Rattle.ep_world.proofs.Shut.{at-kept, at-stands, at-state}
 
 -- ---- entries that record nothing

@@ -1,5 +1,5 @@
 -- What a crash comes to, and an opening.
-use Rattle.std.proofs.Common.{◌≡◌, ℕ, suc, ◌<◌, Bool, true, false, not, List, [], ◌∷◌, ◌++◌, length, Option, Some, None, Result, Ok, Err, ◌⊎◌, inl, inr, if◌then◌else◌, refl, sym, ap, ◌∙◌, subst, append-nil, arith}
+use Rattle.std.proofs.Common.{◌≡◌, ℕ, suc, ◌<◌, Bool, true, false, not, List, [], ◌∷◌, ◌++◌, length, Option, Some, None, Result, Ok, Err, ◌⊎◌, inl, inr, if◌then◌else◌, refl, sym, ap, ◌∙◌, subst, arith}
 use Rattle.std.specs.Option.{option_map}
 use Rattle.std.specs.Prelude.{◌&&◌, IfOk, MatchResult, is_none}
 use Rattle.std.proofs.lemmas.List.{length-append}
@@ -406,15 +406,18 @@ module _ {D : Type 0} (told_by : D → Option Contents) (failures : D → ℕ) (
   reopens new st mid k (Was on is) s m = absurd cc
   reopens new st mid k (Opened kept off fits t) s m = (
     kept,
-    inl (free kept fits, record {
-      state = mid;
-      stands = s;
-      kept = subst IsKeptState (sym t.0) (is-kept kept);
-      is_open = ap (λ (x : MachineState). x.is_open) t.0;
-      records = ap (λ (x : MachineState). x.records) t.0 ∙ same-records kept;
-      pad = ap (λ (x : MachineState). x.pad) t.0 ∙ same kept;
-      mark = m;
-    }),
+    inl (
+      free kept fits,
+      record {
+        state = mid;
+        stands = s;
+        kept = subst IsKeptState (sym t.0) (is-kept kept);
+        is_open = ap (λ (x : MachineState). x.is_open) t.0;
+        records = ap (λ (x : MachineState). x.records) t.0 ∙ same-records kept;
+        pad = ap (λ (x : MachineState). x.pad) t.0 ∙ same kept;
+        mark = m;
+      },
+    ),
   )
     where
       free : (kept : Bool) → journal_fault size (settled kept (stopped st)) (open_record (settled kept (stopped st))) ≡ None → unopened (settled kept st).records (settled kept st).pad ≡ None
@@ -440,19 +443,23 @@ module _ {D : Type 0} (told_by : D → Option Contents) (failures : D → ℕ) (
       → Reopens told_by failures stops_alone alone st new
   sleeps new st next n k z s m = (
     f.0,
-    inr (n, full f.0 f.1, record {
-      state = next;
-      stands = s;
-      kept = subst IsKeptState (sym f.2.0) (is-kept f.0);
-      is_closed = ap (λ (x : MachineState). x.is_open) f.2.0 ∙ settled-closed f.0 (stopped st);
-      settled = ap (λ (x : MachineState). x.pending) f.2.0 ∙ none-pending f.0 (stopped st);
-      records = ap (λ (x : MachineState). x.records) f.2.0 ∙ same-records f.0;
-      pad = ap (λ (q : PadState). record q { epoch = suc (settled f.0 st).pad.epoch; sessions = [] }) (sym same);
-      older = subst (λ (q : PadState). q.epoch < suc (settled f.0 st).pad.epoch) (sym same) (omega arith);
-      bytes = n;
-      full = unopened-alike (settled f.0 st).records (reopened (settled f.0 st).pad) (settled f.0 st).pad refl ∙ full f.0 f.1;
-      mark = m;
-    }),
+    inr (
+      n,
+      full f.0 f.1,
+      record {
+        state = next;
+        stands = s;
+        kept = subst IsKeptState (sym f.2.0) (is-kept f.0);
+        is_closed = ap (λ (x : MachineState). x.is_open) f.2.0 ∙ settled-closed f.0 (stopped st);
+        settled = ap (λ (x : MachineState). x.pending) f.2.0 ∙ none-pending f.0 (stopped st);
+        records = ap (λ (x : MachineState). x.records) f.2.0 ∙ same-records f.0;
+        pad = ap (λ (q : PadState). record q { epoch = suc (settled f.0 st).pad.epoch; sessions = [] }) (sym same);
+        older = subst (λ (q : PadState). q.epoch < suc (settled f.0 st).pad.epoch) (sym same) (omega arith);
+        bytes = n;
+        full = unopened-alike (settled f.0 st).records (reopened (settled f.0 st).pad) (settled f.0 st).pad refl ∙ full f.0 f.1;
+        mark = m;
+      },
+    ),
   )
     where
       f : IsAsleep (stopped st) n next

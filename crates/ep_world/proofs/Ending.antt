@@ -1,5 +1,5 @@
 -- Why an event ends a world.
-use Rattle.std.proofs.Common.{◌≡◌, ℕ, ◌≤◌, Bool, true, false, List, [], ◌∷◌, Option, Some, None, Result, Ok, Err, inl, inr, if◌then◌else◌, refl, sym, ap, ◌∙◌, subst, arith}
+use Rattle.std.proofs.Common.{◌≡◌, ℕ, ◌≤◌, Bool, true, false, List, Option, Some, None, Result, Ok, Err, inl, inr, refl, sym, ap, ◌∙◌, subst, arith}
 use Rattle.std.specs.Option.{option_map}
 use Rattle.std.specs.Prelude.{IfErr, MatchResult}
 use Rattle.ep_units.specs.declared.session.Session.{Session}
@@ -9,16 +9,13 @@ use Rattle.ep_cs.specs.Change.{Change}
 use Rattle.ep_cs.specs.EditFits.{is_edit}
 use Rattle.ep_cs.specs.NormalRuns.{IsNormal}
 use Rattle.ep_cs.specs.Doc.{Doc}
-use Rattle.ep_cs.specs.Fits.{is_identity}
-use Rattle.ep_history.specs.Accept.{at_head, by_session}
 use Rattle.ep_history.specs.Entries.{Entry, Outcome, Reply, is_recordable, outcome}
 use Rattle.ep_history.specs.Entries.Answer.{StatusAnswer, TextAnswer}
 use Rattle.ep_history.specs.Entries.Entry.{Accept, ReadStatus, ReadText}
 use Rattle.ep_history.specs.Entries.Outcome.{Refuses, Answers, Records}
-use Rattle.ep_history.specs.History.{head, head_doc, nop_by, step_revs}
 use Rattle.ep_history.specs.Machine.{MachineState, IsKeptState, IsOpenStep, IsStep, IsStepAs, journal_fault, keeping, open_record, reopening, settled, turn_of}
 use Rattle.ep_history.specs.Machine.IsOpenStep.{Does, Lacks, Fails}
-use Rattle.ep_history.specs.Pad.{PadState, newest, with_nops, with_revs}
+use Rattle.ep_history.specs.Pad.{PadState}
 use Rattle.ep_history.specs.declared.pad_bad.PadBad.{PadBad}
 use Rattle.ep_history.specs.declared.pad_bad.PadBad.TheVariants as bad
 use Rattle.ep_history.specs.declared.record.Record.{Record}
@@ -35,7 +32,7 @@ use Rattle.ep_pad_state.specs.Answering.{status_of}
 use Rattle.ep_pad_state.specs.declared.answers.PadStatus.{PadStatus}
 use Rattle.ep_schedule.specs.Headline.{next_up}
 use Rattle.ep_schedule.specs.Kepts.{Kepts}
-use Rattle.ep_schedule.specs.World.{Name, Message, Reason as AReason, WorldState, reason}
+use Rattle.ep_schedule.specs.World.{Name, Message, WorldState}
 use Rattle.ep_event.specs.declared.event.Event.TheVariants as told
 use Rattle.ep_event.specs.declared.event.StopAt.{StopAt}
 use Rattle.ep_world.specs.declared.actors.Slot.{Slot}
@@ -50,12 +47,11 @@ use Rattle.ep_world.specs.Failing.{IsCaused, failed, failed_opening}
 use Rattle.ep_world.specs.Journal.{IsOpeningFull, behind, full_by, kept_record, record_taken}
 use Rattle.ep_world.specs.Counting.{Counts}
 use Rattle.ep_world.specs.Standing.{IsAt, IsEnded, IsOpenAt, StandsFor}
-use Rattle.ep_world.specs.Stopping.{BreaksNot, FindsFirst, IsUnopened, broken_off, taken_if, taken_of}
+use Rattle.ep_world.specs.Stopping.{BreaksNot, FindsFirst, IsUnopened, broken_off, taken_of}
 use Rattle.ep_world.specs.Taking.{Brings}
 use Rattle.ep_world.proofs.Calls.{MakesMarked, answered}
 use Rattle.ep_world.proofs.Counting.{ok-counts, reads-fails, risen-from, sleeps-full, sleeps-store, caused-from}
 use Rattle.ep_world.proofs.Crashes.{Broken, awake, limits-off, opening-off, spelled, status-there, step-settles, takes-one}
-use Rattle.ep_world.proofs.Shut.{settled-records, settled-whole}
 
 -- ---- counts of faults
 

@@ -173,8 +173,11 @@ module _ {D : Type 0} (told_by : D → Option Contents) (failures : D → ℕ) (
       → IsAnswered told_by failures stops_alone alone rs old pad (ReadText None) (Ok (TextAnswer doc)) new → TellsHead told_by failures stops_alone alone rs pad (Ok (top.There r doc)) new
   head-told old new pad r doc there e a =
       let t = text-told old new pad None doc a in (
-        (ap (λ b. if b then Some (both (head (newest pad)) (head_doc (newest pad))) else None) there
-            ∙ sym (ap (λ x. Some (both x doc)) e ∙ ap (λ x. Some (both (head (newest pad)) x)) t.1), t.3),
+        (
+          ap (λ b. if b then Some (both (head (newest pad)) (head_doc (newest pad))) else None) there
+              ∙ sym (ap (λ x. Some (both x doc)) e ∙ ap (λ x. Some (both (head (newest pad)) x)) t.1),
+          t.3,
+        ),
         t.2,
       )
     where

@@ -1,5 +1,5 @@
 -- A pad that is shut, and one that is open.
-use Rattle.std.proofs.Common.{◌≡◌, ℕ, suc, ◌<◌, Bool, true, false, List, [], ◌∷◌, ◌++◌, Option, Some, None, Ok, Err, inl, inr, if◌then◌else◌, refl, sym, ap, ◌∙◌, subst, append-nil, zero, arith}
+use Rattle.std.proofs.Common.{◌≡◌, ℕ, suc, ◌<◌, Bool, true, false, List, [], ◌∷◌, ◌++◌, Option, Some, None, inl, inr, if◌then◌else◌, refl, sym, ap, ◌∙◌, subst, append-nil, zero, arith}
 use Rattle.std.proofs.lemmas.Bool.Decides.{nat_tests}
 use Rattle.std.specs.Prelude.{nat_lt, ◌==◌, ◌+◌, sum_by}
 use Rattle.std.proofs.lemmas.List.Sums.{sum_by_push}
@@ -8,8 +8,7 @@ use Rattle.ep_outside.specs.Disk.{Contents}
 use Rattle.ep_outside.specs.declared.limits.Limits.{Limits}
 use Rattle.ep_history.specs.Lists.{numbered}
 use Rattle.ep_history.specs.Machine.{MachineState, IsKeptState, IsThen, file_bytes, journal_fault, most_bytes, open_record, settled}
-use Rattle.ep_history.specs.Pad.{PadState, leave, reopened, seat_of}
-use Rattle.ep_history.specs.Readings.{dead_fault, dead_if, end_of}
+use Rattle.ep_history.specs.Pad.{PadState, reopened, seat_of}
 use Rattle.ep_history.specs.Records.{told as told_pad, told_from}
 use Rattle.ep_history.specs.Refusals.{first_fault, fault_if}
 use Rattle.ep_history.specs.declared.pad_bad.PadBad.{PadBad}
@@ -17,13 +16,12 @@ use Rattle.ep_history.specs.declared.pad_bad.PadBad.TheVariants as bad
 use Rattle.ep_history.specs.declared.record.Record.{Record}
 use Rattle.ep_history.specs.declared.record.Record.TheVariants as record_of
 use Rattle.ep_history.specs.declared.seat.Seat.{Seat}
-use Rattle.ep_history.specs.declared.seat.Why.TheVariants.{Reopened}
 use Rattle.ep_history.proofs.Lists.{none_some}
 use Rattle.ep_record.specs.Bytes.{number}
 use Rattle.ep_pad.specs.Held.{Held}
 use Rattle.ep_pad.specs.Standing.{Stands, opening}
 use Rattle.ep_pad_file.specs.Standing.{size}
-use Rattle.ep_world.specs.Journal.{full_by, full_in, is_shut, machine_of, unopened}
+use Rattle.ep_world.specs.Journal.{full_by, full_in, is_shut, unopened}
 use Rattle.ep_world.specs.Standing.{IsAt, IsOpenAt, IsShutAt}
 
 -- ---- what is pending

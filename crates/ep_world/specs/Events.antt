@@ -1,5 +1,5 @@
 -- What an event of a script asks for, as an event of the world.
-use Rattle.std.specs.Prelude.{ℕ, ◌+◌, Bool, true, false, not, [], ◌∷◌, length, Option, Some, None}
+use Rattle.std.specs.Prelude.{ℕ, Bool, true, false, not, Option, Some, None}
 use Rattle.ep_units.specs.Text.{Text, is_well_formed}
 use Rattle.ep_cs.specs.Doc.{Doc}
 use Rattle.ep_invert.specs.declared.bad.SpliceBad.{SpliceBad}

@@ -7,7 +7,6 @@ use Rattle.ep_history.specs.Entries.{Entry, Answer, Outcome, Reply, outcome}
 use Rattle.ep_history.specs.Entries.Outcome.{Refuses, Answers, Records}
 use Rattle.ep_history.specs.Machine.{MachineState, IsKeptState}
 use Rattle.ep_history.specs.Pad.{PadState}
-use Rattle.ep_history.specs.declared.pad_bad.PadBad.{PadBad}
 use Rattle.ep_history.specs.declared.pad_bad.PadBad.TheVariants as bad
 use Rattle.ep_history.specs.declared.record.Record.{Record}
 use Rattle.ep_history.specs.declared.record.Record.TheVariants as record_of

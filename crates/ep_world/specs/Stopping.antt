@@ -24,7 +24,7 @@ use Rattle.ep_event.specs.declared.shown.Shown.{Shown}
 use Rattle.ep_event.specs.declared.shown.Verb.TheVariants as verb
 use Rattle.ep_world.specs.Journal.{IsOpeningFull, behind, full_in, kept_record, keeps_record, record_taken, unopened}
 use Rattle.ep_world.specs.Shows.{pad_refuses, shows_opening}
-use Rattle.ep_world.specs.Standing.{IsAt, IsOpenAt, IsShutAt}
+use Rattle.ep_world.specs.Standing.{IsOpenAt, IsShutAt}
 use Rattle.ep_history.specs.declared.record.Record.{Record}
 
 -- ---- the first message

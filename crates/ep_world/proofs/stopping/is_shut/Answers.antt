@@ -1,4 +1,4 @@
-use Rattle.std.proofs.Common.{◌≡◌, Ok, Err, subst}
+use Rattle.std.proofs.Common.{◌≡◌, Err, subst}
 use Rattle.ep_history.specs.Entries.Answer.{StatusAnswer}
 use Rattle.ep_history.specs.Entries.Entry.{ReadStatus}
 use Rattle.ep_history.specs.declared.pad_bad.PadBad.TheVariants as bad

@@ -1,5 +1,5 @@
 use Rattle.std.proofs.Common.{◌≡◌, ◌∙◌, Err, subst}
-use Rattle.std.specs.Prelude.{IfErr, MatchResult}
+use Rattle.std.specs.Prelude.{MatchResult}
 use Rattle.ep_history.specs.Machine.{MachineState}
 use Rattle.ep_history.specs.declared.pad_bad.PadBad.TheVariants as bad
 use Rattle.ep_pad.specs.Opening.{IsWoken, Sleeps, stopped}
@@ -17,8 +17,8 @@ pub returns-in-Err-JournalFull-clause-reopens : goal.returns-in-Err-JournalFull-
 returns-in-Err-JournalFull-clause-reopens g c = λ alone st k s m.
     let full : c.restart.result ≡ Err (bad.JournalFull c.in-Err-JournalFull.field-0-0) = cc (c.in-Err-JournalFull.is, c.in-Err-JournalFull.field-0-is) in
     let r = subst
-        (λ r. MatchResult r (λ _. (mid : MachineState) × IsWoken (stopped st) mid × Stands g.D.Disk.told g.D.Device.failures c.restart.new.self mid)
-        (λ b. (next : MachineState) × Sleeps (stopped st) b next × Stands g.D.Disk.told g.D.Device.failures c.restart.new.self next)) full (c.restart.ensures.restarts st k s) in
+    (λ r. MatchResult r (λ _. (mid : MachineState) × IsWoken (stopped st) mid × Stands g.D.Disk.told g.D.Device.failures c.restart.new.self mid)
+    (λ b. (next : MachineState) × Sleeps (stopped st) b next × Stands g.D.Disk.told g.D.Device.failures c.restart.new.self next)) full (c.restart.ensures.restarts st k s) in
     sleeps g.D.Disk.told g.D.Device.failures g.D.Disk.stops_alone alone c.restart.new.self st r.0 c.in-Err-JournalFull.field-0-0 k r.1 r.2 (c.restart.ensures.alone ∙ m)
 
 pub returns-in-Ok-clause-counts : goal.returns-in-Ok-clause-counts
@@ -30,9 +30,9 @@ returns-in-Err-JournalFull-clause-counts g c = λ alone rs pad a.
     let full : c.restart.result ≡ Err (bad.JournalFull c.in-Err-JournalFull.field-0-0) = cc (c.in-Err-JournalFull.is, c.in-Err-JournalFull.field-0-is) in
     asleep-later g.D.Disk.told g.D.Device.failures g.D.Disk.stops_alone alone rs c.args.machine.now c.restart.new.self pad c.in-Err-JournalFull.field-0-0 a
     (subst
-        (λ r. MatchResult r (λ _. (mid : MachineState) × IsWoken (stopped a.state) mid × Stands g.D.Disk.told g.D.Device.failures c.restart.new.self mid)
-        (λ b. (next : MachineState) × Sleeps (stopped a.state) b next × Stands g.D.Disk.told g.D.Device.failures c.restart.new.self next)) full
-        (c.restart.ensures.restarts a.state a.kept a.stands))
+    (λ r. MatchResult r (λ _. (mid : MachineState) × IsWoken (stopped a.state) mid × Stands g.D.Disk.told g.D.Device.failures c.restart.new.self mid)
+    (λ b. (next : MachineState) × Sleeps (stopped a.state) b next × Stands g.D.Disk.told g.D.Device.failures c.restart.new.self next)) full
+    (c.restart.ensures.restarts a.state a.kept a.stands))
 
 pub returns-in-Err-clause-counts : goal.returns-in-Err-clause-counts
 returns-in-Err-clause-counts g c = λ alone rs pad a.

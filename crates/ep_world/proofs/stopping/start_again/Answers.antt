@@ -1,4 +1,4 @@
-use Rattle.std.proofs.Common.{◌≡◌, Bool, true, false, Ok, Err, sym, ap, ◌∙◌, subst}
+use Rattle.std.proofs.Common.{◌≡◌, true, false, Ok, sym, ap, ◌∙◌, subst}
 use Rattle.std.specs.Prelude.{MatchResult, IfErr}
 use Rattle.ep_world.specs.Counting.{Counts}
 use Rattle.ep_world.specs.Failing.{IsFailure}
