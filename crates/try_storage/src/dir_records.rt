@@ -20,7 +20,8 @@ fn records(alloc: Global, key: &str, value: &str) -> Result<Records<MapKeeper>, 
 }
 
 fn is_text(alloc: Global, units: &Units, wanted: &str) -> Result<bool, NoMemory> {
-    Ok(units.to_text_lossy(alloc)?.as_str() == wanted)
+    let text = units.to_text_lossy(alloc)?;
+    Ok(text.as_str() == wanted)
 }
 
 /// Whether this is the new id behind a count of ids.

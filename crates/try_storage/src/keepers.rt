@@ -4,21 +4,25 @@ use ep_outside::{KeepBad, Keeper, Pair, Put, Text};
 use ep_units::NoMemory;
 use std::alloc::Global;
 
+fn value_of(alloc: Global, value: Option<&str>) -> Result<Option<Text>, NoMemory> {
+    let Some(value) = value else {
+        return Ok(None);
+    };
+    let text = Text::from_str(alloc, value)?;
+    Ok(Some(text))
+}
+
 fn put(alloc: Global, key: &str, value: Option<&str>) -> Result<Put, NoMemory> {
     let key = Text::from_str(alloc, key)?;
-    match value {
-        Some(value) => Ok(Put {
-            key,
-            value: Some(Text::from_str(alloc, value)?),
-        }),
-        None => Ok(Put { key, value: None }),
-    }
+    let value = value_of(alloc, value)?;
+    Ok(Put { key, value })
 }
 
 fn puts(alloc: Global, rows: &[(&str, Option<&str>)]) -> Result<Vec<Put>, NoMemory> {
     let mut puts = Vec::new(alloc);
     for (key, value) in rows {
-        puts.push(put(alloc, key, *value)?)?;
+        let put = put(alloc, key, *value)?;
+        puts.push(put)?;
     }
     Ok(puts)
 }
@@ -57,7 +61,8 @@ pub fn are_listed<K: Keeper>(
     prefix: &str,
     wanted: &[(&str, &str)],
 ) -> Result<bool, KeepBad> {
-    Ok(are_pairs(keeper.list_prefix(prefix)?.as_slice(), wanted))
+    let pairs = keeper.list_prefix(prefix)?;
+    Ok(are_pairs(pairs.as_slice(), wanted))
 }
 
 /// Whether the keeper fails to get.

@@ -6,7 +6,9 @@ use std::alloc::Global;
 use std::test::Fail;
 
 fn is_written(alloc: Global, on: bool, wanted: &[u8]) -> Result<bool, NoMemory> {
-    Ok(encode(alloc, &Record::Public { on })?.as_slice() == wanted)
+    let record = Record::Public { on };
+    let bytes = encode(alloc, &record)?;
+    Ok(bytes.as_slice() == wanted)
 }
 
 /// Behind a front, in the bytes of an earlier record.
@@ -16,13 +18,15 @@ fn is_written_behind(
     on: bool,
     wanted: &[u8],
 ) -> Result<bool, NoMemory> {
-    let spare = encode(alloc, &Record::Public { on: true })?;
-    let bytes = encode_behind(alloc, front, &Record::Public { on }, Some(spare))?;
+    let (earlier, record) = (Record::Public { on: true }, Record::Public { on });
+    let spare = encode(alloc, &earlier)?;
+    let bytes = encode_behind(alloc, front, &record, Some(spare))?;
     Ok(bytes.as_slice() == wanted)
 }
 
 fn is_record(alloc: Global, bytes: &[u8]) -> Result<bool, NoMemory> {
-    Ok(decode(alloc, bytes)?.is_some())
+    let record = decode(alloc, bytes)?;
+    Ok(record.is_some())
 }
 
 #[test]

@@ -75,7 +75,10 @@ fn steps(alloc: Global, revs: &Revs, r: u64) -> Result<Option<u64>, NoMemory> {
 /// How long the document of a revision is, where that is there.
 fn length_at(alloc: Global, revs: &Revs, r: u64) -> Result<Option<u32>, NoMemory> {
     match revs.head() {
-        Some(head) if r <= head => Ok(Some(revs.doc(alloc, r)?.len())),
+        Some(head) if r <= head => {
+            let doc = revs.doc(alloc, r)?;
+            Ok(Some(doc.len()))
+        }
         _ => Ok(None),
     }
 }
@@ -84,7 +87,8 @@ fn length_at(alloc: Global, revs: &Revs, r: u64) -> Result<Option<u32>, NoMemory
 fn behind_the_first(alloc: Global, revs: &Revs) -> Result<Option<(usize, u64)>, NoMemory> {
     match revs.head() {
         Some(head) if 1 <= head => {
-            Ok(Some((copies_of(alloc, revs.since(0))?.len(), revs.rev(1).time)))
+            let copies = copies_of(alloc, revs.since(0))?;
+            Ok(Some((copies.len(), revs.rev(1).time)))
         }
         _ => Ok(None),
     }

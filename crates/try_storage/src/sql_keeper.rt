@@ -29,16 +29,6 @@ fn is_kept_again<K: Keeper>(alloc: Global, keeper: &mut K) -> Result<bool, KeepB
     Ok(are_listed && is_got(keeper, "a0", None)? && keeper.faults() == 0)
 }
 
-#[test]
-fn keeps_what_was_put(rt: HostRuntime) -> Result<(), Fail> {
-    let mut keeper = FileKeeper::open(&rt, "keeps.db")?;
-    assert!(rt; is_kept(rt.alloc(), &mut keeper)?);
-    drop(keeper);
-    let mut again = FileKeeper::open(&rt, "keeps.db")?;
-    assert!(rt; is_kept_again(rt.alloc(), &mut again)?);
-    Ok(())
-}
-
 /// Whether a keeper that held nothing holds what was put.
 fn is_held<K: Keeper>(alloc: Global, keeper: &mut K) -> Result<bool, KeepBad> {
     let puts = [("a/1", Some("x")), ("a/2", Some("y")), ("b", Some("z"))];
@@ -48,31 +38,34 @@ fn is_held<K: Keeper>(alloc: Global, keeper: &mut K) -> Result<bool, KeepBad> {
     Ok(are_listed && is_got(keeper, "a/1", None)? && keeper.faults() == 0)
 }
 
-#[test]
-fn holds_in_memory(rt: HostRuntime) -> Result<(), Fail> {
-    let mut keeper = SqlKeeper::in_memory(rt.alloc())?;
-    assert!(rt; is_held(rt.alloc(), &mut keeper)?);
-    Ok(())
+/// Whether each call fails, and is counted.
+fn all_fail<K: Keeper>(alloc: Global, keeper: &mut K) -> bool {
+    get_fails(keeper, "a")
+        && list_fails(keeper, "")
+        && put_fails(alloc, keeper, &[])
+        && keeper.faults() == 3
 }
 
-#[test]
-fn fails_without_its_file(rt: HostRuntime) -> Result<(), Fail> {
-    let mut keeper = FileKeeper::open(&rt, "no/such/folder.db")?;
-    assert!(rt; get_fails(&mut keeper, "a"));
-    assert!(rt; list_fails(&mut keeper, ""));
-    assert!(rt; put_fails(rt.alloc(), &mut keeper, &[]));
-    assert_eq!(rt; keeper.faults(), 3);
-    Ok(())
-}
+/// A beginning of keys, the greatest of the keys that begin so, and where the texts that begin so end.
+type Prefix = (&'static str, &'static str, Option<&'static str>);
 
-/// Puts the least and the greatest of the keys that begin so, and where the texts that begin so end: whether just the
-/// two are listed.
-fn end_there<K: Keeper>(
+const PREFIXES: [Prefix; 5] = [
+    ("", "\u{10FFFF}", None),
+    ("s/", "s/\u{10FFFF}", Some("s0")),
+    ("a\u{D7FF}", "a\u{D7FF}\u{10FFFF}", Some("a\u{E000}")),
+    (
+        "a\u{10FFFF}\u{10FFFF}",
+        "a\u{10FFFF}\u{10FFFF}\u{10FFFF}",
+        Some("b"),
+    ),
+    ("\u{10FFFF}", "\u{10FFFF}\u{10FFFF}", None),
+];
+
+/// Puts these keys, and the beginning itself: whether just the two that begin so are listed.
+fn ends_there<K: Keeper>(
     alloc: Global,
     keeper: &mut K,
-    prefix: &str,
-    greatest: &str,
-    end: Option<&str>,
+    (prefix, greatest, end): Prefix,
 ) -> Result<bool, KeepBad> {
     put_all(alloc, keeper, &[(prefix, Some("")), (greatest, Some(""))])?;
     if let Some(end) = end {
@@ -81,24 +74,90 @@ fn end_there<K: Keeper>(
     are_listed(keeper, prefix, &[(prefix, ""), (greatest, "")])
 }
 
+/// The first beginning whose keys are listed otherwise.
+fn first_unlisted<K: Keeper>(
+    alloc: Global,
+    keeper: &mut K,
+    rows: &[Prefix],
+) -> Result<Option<&'static str>, KeepBad> {
+    for row in rows {
+        if !ends_there(alloc, keeper, *row)? {
+            return Ok(Some(row.0));
+        }
+    }
+    Ok(None)
+}
+
+/// What is asked of a keeper.
+#[derive(Clone, Copy)]
+enum Asked {
+    Keeps,
+    KeepsAgain,
+    Fails,
+    Holds,
+    Lists,
+}
+
+/// Nothing where it is so, and else this.
+fn unless(is_so: bool, what: &'static str) -> Option<&'static str> {
+    if is_so { None } else { Some(what) }
+}
+
+/// What isn't as it is asked.
+fn wrong<K: Keeper>(
+    alloc: Global,
+    keeper: &mut K,
+    asked: Asked,
+) -> Result<Option<&'static str>, KeepBad> {
+    match asked {
+        Asked::Keeps => Ok(unless(is_kept(alloc, keeper)?, "kept")),
+        Asked::KeepsAgain => Ok(unless(is_kept_again(alloc, keeper)?, "kept again")),
+        Asked::Fails => Ok(unless(all_fail(alloc, keeper), "a failure")),
+        Asked::Holds => Ok(unless(is_held(alloc, keeper)?, "held")),
+        Asked::Lists => first_unlisted(alloc, keeper, &PREFIXES),
+    }
+}
+
+/// The same of a keeper that is opened over a file, and closed. Whoever owns one is dear to prove, so it stands once.
+fn wrong_in_file(
+    rt: &HostRuntime,
+    path: &str,
+    asked: Asked,
+) -> Result<Option<&'static str>, KeepBad> {
+    let mut keeper = FileKeeper::open(rt, path)?;
+    wrong(rt.alloc(), &mut keeper, asked)
+}
+
+/// The same of one in memory.
+fn wrong_in_memory(alloc: Global, asked: Asked) -> Result<Option<&'static str>, KeepBad> {
+    let mut keeper = SqlKeeper::in_memory(alloc)?;
+    wrong(alloc, &mut keeper, asked)
+}
+
+#[test]
+fn keeps_what_was_put(rt: HostRuntime) -> Result<(), Fail> {
+    assert_eq!(rt; wrong_in_file(&rt, "keeps.db", Asked::Keeps)?, None);
+    assert_eq!(rt; wrong_in_file(&rt, "keeps.db", Asked::KeepsAgain)?, None);
+    Ok(())
+}
+
+#[test]
+fn fails_without_its_file(rt: HostRuntime) -> Result<(), Fail> {
+    assert_eq!(rt;
+        wrong_in_file(&rt, "no/such/folder.db", Asked::Fails)?,
+        None
+    );
+    Ok(())
+}
+
+#[test]
+fn holds_in_memory(rt: HostRuntime) -> Result<(), Fail> {
+    assert_eq!(rt; wrong_in_memory(rt.alloc(), Asked::Holds)?, None);
+    Ok(())
+}
+
 #[test]
 fn lists_up_to_the_end_of_a_prefix(rt: HostRuntime) -> Result<(), Fail> {
-    let mut keeper = SqlKeeper::in_memory(rt.alloc())?;
-    for (prefix, greatest, end) in [
-        ("", "\u{10FFFF}", None),
-        ("s/", "s/\u{10FFFF}", Some("s0")),
-        ("a\u{D7FF}", "a\u{D7FF}\u{10FFFF}", Some("a\u{E000}")),
-        (
-            "a\u{10FFFF}\u{10FFFF}",
-            "a\u{10FFFF}\u{10FFFF}\u{10FFFF}",
-            Some("b"),
-        ),
-        ("\u{10FFFF}", "\u{10FFFF}\u{10FFFF}", None),
-    ] {
-        assert!(rt;
-            end_there(rt.alloc(), &mut keeper, prefix, greatest, end)?,
-            "at {prefix}"
-        );
-    }
+    assert_eq!(rt; wrong_in_memory(rt.alloc(), Asked::Lists)?, None);
     Ok(())
 }
