@@ -1,11 +1,9 @@
-//! The directory of a house of `ep_pad_port`, by its port, and a directory of `ep_house` with two callers at once.
+//! A directory by the calls of its port, and a directory of `ep_house` with two callers at once.
 
-use crate::given::{DRAWN, LIMITS, id};
-use ep_disk_mem::MemShelf;
-use ep_groups::{DirBad, DirPort, Listed};
+use crate::given::{DRAWN, id};
+use ep_groups::{DirBad, DirPort, Listed, SessionInfo};
 use ep_house::Directory;
 use ep_keep::MapKeeper;
-use ep_pad_port::House;
 use ep_units::{NoMemory, PadId, Units};
 use std::alloc::Global;
 use std::process::Abort;
@@ -48,24 +46,31 @@ impl Drop for Entry {
 }
 
 fn make_whom(alloc: Global) -> Result<Whom, NoMemory> {
+    let word = Units::from_str(alloc, "word")?;
+    let group = Units::from_str(alloc, "g.abcdefghij000000")?;
+    let author = Units::from_str(alloc, "a.abcdefghij000002")?;
     Ok(Whom {
-        word: Units::from_str(alloc, "word")?,
-        group: Units::from_str(alloc, "g.abcdefghij000000")?,
-        author: Units::from_str(alloc, "a.abcdefghij000002")?,
+        word,
+        group,
+        author,
     })
 }
 
 fn make_entry(alloc: Global) -> Result<Entry, NoMemory> {
+    let session = Units::from_str(alloc, "s.abcdefghij000004")?;
+    let pad = id(alloc, "g.abcdefghij000000$word")?;
+    let read_only = Units::from_str(alloc, "r.abcdefghij000005")?;
     Ok(Entry {
-        sessions: [Units::from_str(alloc, "s.abcdefghij000004")?],
-        pad: id(alloc, "g.abcdefghij000000$word")?,
-        read_only: Units::from_str(alloc, "r.abcdefghij000005")?,
+        sessions: [session],
+        pad,
+        read_only,
     })
 }
 
 /// What a call answered is this text.
 fn says<R: Abort>(rt: &R, alloc: Global, answer: Units, text: &str) -> Result<(), NoMemory> {
-    assert_eq!(rt; answer.to_text_lossy(alloc)?.as_str(), text);
+    let said = answer.to_text_lossy(alloc)?;
+    assert_eq!(rt; said.as_str(), text);
     Ok(())
 }
 
@@ -74,9 +79,18 @@ fn names<R: Abort>(rt: &R, answer: PadId, pad: &PadId) {
     assert_eq!(rt; answer.as_slice(), pad.as_slice());
 }
 
+fn author_of(info: SessionInfo) -> Units {
+    info.author
+}
+
+fn id_of(info: SessionInfo) -> Units {
+    info.id
+}
+
 fn last<T: Drop>(listed: Listed<T>) -> Result<T, DirBad> {
     let Listed { mut items } = listed;
-    items.pop().ok_or(DirBad::NoGroup)
+    let item = items.pop();
+    item.ok_or(DirBad::NoGroup)
 }
 
 fn groups<R: Wait + Abort, P: DirPort>(
@@ -93,7 +107,8 @@ fn groups<R: Wait + Abort, P: DirPort>(
     says(rt, alloc, group, "g.abcdefghij000000")?;
     let group = port.group_for(rt, pass, &whom.word, DRAWN)?;
     says(rt, alloc, group, "g.abcdefghij000001")?;
-    let group = last(port.groups(rt, pass)?)?;
+    let listed = port.groups(rt, pass)?;
+    let group = last(listed)?;
     says(rt, alloc, group, "g.abcdefghij000001")?;
     Ok(())
 }
@@ -130,18 +145,32 @@ fn sessions<R: Wait + Abort, P: DirPort>(
 {
     let session = port.create_session(rt, pass, &whom.group, &whom.author, 100, 50, DRAWN)?;
     says(rt, alloc, session, "s.abcdefghij000004")?;
-    let author = port.session(rt, pass, &entry.sessions[0])?.author;
-    says(rt, alloc, author, "a.abcdefghij000002")?;
-    let session = last(port.sessions_of_group(rt, pass, &whom.group)?)?.id;
-    says(rt, alloc, session, "s.abcdefghij000004")?;
-    let session = last(port.sessions_of_author(rt, pass, &whom.author)?)?.id;
-    says(rt, alloc, session, "s.abcdefghij000004")?;
+    let session = port.session(rt, pass, &entry.sessions[0])?;
+    says(rt, alloc, author_of(session), "a.abcdefghij000002")?;
+    Ok(())
+}
+
+fn listed_sessions<R: Wait + Abort, P: DirPort>(
+    rt: &R,
+    alloc: Global,
+    port: &P,
+    pass: &mut P::Pass,
+    whom: &Whom,
+) -> Result<(), DirBad>
+    requires { P.is_of port.now pass.old }
+    ensures { P.is_of port.now pass.new }
+{
+    let listed = port.sessions_of_group(rt, pass, &whom.group)?;
+    let session = last(listed)?;
+    says(rt, alloc, id_of(session), "s.abcdefghij000004")?;
+    let listed = port.sessions_of_author(rt, pass, &whom.author)?;
+    let session = last(listed)?;
+    says(rt, alloc, id_of(session), "s.abcdefghij000004")?;
     Ok(())
 }
 
 fn pads<R: Wait + Abort, P: DirPort>(
     rt: &R,
-    alloc: Global,
     port: &P,
     pass: &mut P::Pass,
     whom: &Whom,
@@ -152,8 +181,23 @@ fn pads<R: Wait + Abort, P: DirPort>(
 {
     let pad = port.add_group_pad(rt, pass, &whom.group, &whom.word)?;
     names(rt, pad, &entry.pad);
-    let pad = last(port.group_pads(rt, pass, &whom.group)?)?;
+    let listed = port.group_pads(rt, pass, &whom.group)?;
+    let pad = last(listed)?;
     names(rt, pad, &entry.pad);
+    Ok(())
+}
+
+fn grants<R: Wait + Abort, P: DirPort>(
+    rt: &R,
+    alloc: Global,
+    port: &P,
+    pass: &mut P::Pass,
+    whom: &Whom,
+    entry: &Entry,
+) -> Result<(), DirBad>
+    requires { P.is_of port.now pass.old }
+    ensures { P.is_of port.now pass.new }
+{
     let read_only = port.read_only(rt, pass, &entry.pad, DRAWN)?;
     says(rt, alloc, read_only, "r.abcdefghij000005")?;
     let author = granted(rt, port, pass, whom, entry)?;
@@ -196,26 +240,28 @@ fn ends<R: Wait, P: DirPort>(
     port.delete_group(rt, pass, &whom.group)
 }
 
-// Each call of the port answers as it should.
-fn answers<R: Wait + Abort, P: DirPort>(rt: &R, alloc: Global, port: &P) -> Result<(), DirBad> {
-    let whom = make_whom(alloc)?;
-    let entry = make_entry(alloc)?;
+/// Each call of the port answers as it should.
+fn all_answer<R: Wait + Abort, P: DirPort>(
+    rt: &R,
+    alloc: Global,
+    port: &P,
+    whom: &Whom,
+    entry: &Entry,
+) -> Result<(), DirBad> {
     let mut pass = port.pass(rt);
-    groups(rt, alloc, port, &mut pass, &whom)?;
-    authors(rt, alloc, port, &mut pass, &whom)?;
-    sessions(rt, alloc, port, &mut pass, &whom, &entry)?;
-    pads(rt, alloc, port, &mut pass, &whom, &entry)?;
-    ends(rt, port, &mut pass, &whom, &entry)
+    groups(rt, alloc, port, &mut pass, whom)?;
+    authors(rt, alloc, port, &mut pass, whom)?;
+    sessions(rt, alloc, port, &mut pass, whom, entry)?;
+    listed_sessions(rt, alloc, port, &mut pass, whom)?;
+    pads(rt, port, &mut pass, whom, entry)?;
+    grants(rt, alloc, port, &mut pass, whom, entry)?;
+    ends(rt, port, &mut pass, whom, entry)
 }
 
-#[test]
-fn each_call_of_a_port_answers(rt: HostRuntime) -> Result<(), Fail> {
-    let alloc = rt.alloc();
-    let shelf = MemShelf::new(alloc, Vec::new(alloc), Vec::new(alloc))?;
-    let keeper = MapKeeper::new(alloc, Vec::new(alloc));
-    let house = House::open(alloc, shelf, keeper, LIMITS)?;
-    assert!(&rt; answers(&rt, alloc, &house).is_ok());
-    Ok(())
+pub fn answers<R: Wait + Abort, P: DirPort>(rt: &R, alloc: Global, port: &P) -> Result<(), DirBad> {
+    let whom = make_whom(alloc)?;
+    let entry = make_entry(alloc)?;
+    all_answer(rt, alloc, port, &whom, &entry)
 }
 
 // Makes so many groups by a pass of its own.
@@ -230,7 +276,8 @@ fn make_groups<R: Wait, P: DirPort>(rt: &R, port: &P, times: u64) -> Result<(), 
 /// How many groups there are.
 fn count<R: Wait, P: DirPort>(rt: &R, port: &P) -> Result<usize, DirBad> {
     let mut pass = port.pass(rt);
-    Ok(port.groups(rt, &mut pass)?.as_slice().len())
+    let groups = port.groups(rt, &mut pass)?;
+    Ok(groups.as_slice().len())
 }
 
 #[test]

@@ -5,17 +5,34 @@ use crate::house::{MemHouse, opened};
 use ep_link::Ear;
 use ep_pad::PadPort;
 use ep_ring::{Bells, Ringing};
-use ep_units::{NoMemory, Units};
+use ep_units::{Grant, NoMemory, Units};
 use std::alloc::Global;
 use std::sync::atomic::{AtomicBool, Ordering};
 use std::sync::{Arc, Wait};
 use std::test::Fail;
 
 /// What became of an ear.
-#[derive(Drop)]
 struct Marks {
     is_there: AtomicBool,
     is_rung: AtomicBool,
+}
+
+impl Drop for Marks {
+    fn drop(self) {
+        let Marks {
+            is_there: _,
+            is_rung: _,
+        } = self;
+    }
+}
+
+impl Marks {
+    fn new() -> Marks {
+        Marks {
+            is_there: AtomicBool::new(true),
+            is_rung: AtomicBool::new(false),
+        }
+    }
 }
 
 /// An ear whose marks others read.
@@ -37,45 +54,100 @@ impl Ear for Marked {
     }
 }
 
-type MarkedPort = Ringing<MemHouse, Marked>;
+/// Somebody with an ear, whose marks are read.
+struct Visitor {
+    port: Ringing<MemHouse, Marked>,
+    marks: Arc<Marks>,
+}
+
+impl Drop for Visitor {
+    fn drop(self) {
+        let Visitor { port: _, marks: _ } = self;
+    }
+}
+
+impl Visitor {
+    fn has_ear(&self) -> bool {
+        self.marks.is_there.load(Ordering::SeqCst)
+    }
+
+    fn is_rung(&self) -> bool {
+        self.marks.is_rung.load(Ordering::SeqCst)
+    }
+}
 
 /// What all visitors share.
-#[derive(Drop)]
 struct Desk {
     house: Arc<MemHouse>,
     bells: Arc<Bells<Marked>>,
 }
 
-impl Desk {
-    fn new(alloc: Global) -> Result<Desk, Fail> {
-        let house = opened(alloc, Vec::new(alloc), &[], 2)?;
-        Ok(Desk {
-            house: Arc::new(alloc, house)?,
-            bells: Arc::new(alloc, Bells::new(alloc))?,
-        })
-    }
-
-    /// A visitor with an ear, and its marks.
-    fn visitor(&self, alloc: Global) -> Result<(MarkedPort, Arc<Marks>), NoMemory> {
-        let marks = Marks {
-            is_there: AtomicBool::new(true),
-            is_rung: AtomicBool::new(false),
-        };
-        let marks = Arc::new(alloc, marks)?;
-        let ear = Marked {
-            marks: Arc::try_clone(&marks)?,
-        };
-        let house = Arc::try_clone(&self.house)?;
-        let bells = Arc::try_clone(&self.bells)?;
-        Ok((Ringing::new(house, bells, Some(ear)), marks))
+impl Drop for Desk {
+    fn drop(self) {
+        let Desk { house: _, bells: _ } = self;
     }
 }
 
-/// Whether a visitor may enter the pad, and set its text, if it has one to set.
-fn visits<R: Wait>(
+fn shared_house(alloc: Global) -> Result<Arc<MemHouse>, Fail> {
+    let house = opened(alloc, Vec::new(alloc), &[], 2)?;
+    Ok(Arc::new(alloc, house)?)
+}
+
+fn shared_bells(alloc: Global) -> Result<Arc<Bells<Marked>>, NoMemory> {
+    Ok(Arc::new(alloc, Bells::new(alloc))?)
+}
+
+impl Desk {
+    fn new(alloc: Global) -> Result<Desk, Fail> {
+        let house = shared_house(alloc)?;
+        let bells = shared_bells(alloc)?;
+        Ok(Desk { house, bells })
+    }
+
+    fn port(&self, ear: Marked) -> Result<Ringing<MemHouse, Marked>, NoMemory> {
+        let house = Arc::try_clone(&self.house)?;
+        let bells = Arc::try_clone(&self.bells)?;
+        Ok(Ringing::new(house, bells, Some(ear)))
+    }
+
+    fn visitor(&self, alloc: Global) -> Result<Visitor, NoMemory> {
+        let marks = Arc::new(alloc, Marks::new())?;
+        let shared = Arc::try_clone(&marks)?;
+        let port = self.port(Marked { marks: shared })?;
+        Ok(Visitor { port, marks })
+    }
+
+    /// For how many pads somebody waits.
+    fn waiting<R: Wait>(&self, rt: &R) -> usize {
+        self.bells.count(rt)
+    }
+}
+
+fn logs_in<R: Wait, P: PadPort>(rt: &R, port: &P, pass: &mut P::Pass, grant: &Grant) -> bool
+    requires { P.is_of port.now pass.old }
+    ensures { P.is_of port.now pass.new }
+{
+    port.login(rt, pass, grant, 2).is_ok()
+}
+
+fn sets_text<R: Wait, P: PadPort>(
     rt: &R,
     alloc: Global,
-    port: &MarkedPort,
+    port: &P,
+    pass: &mut P::Pass,
+    text: &str,
+) -> Result<bool, NoMemory>
+    requires { P.is_of port.now pass.old }
+{
+    let text = Units::from_str(alloc, text)?;
+    Ok(port.set_text(rt, pass, &text, 3).is_ok())
+}
+
+/// Whether a visitor may enter the pad, and set its text, if it has one to set.
+fn visits<R: Wait, P: PadPort>(
+    rt: &R,
+    alloc: Global,
+    port: &P,
     text: Option<&str>,
 ) -> Result<bool, NoMemory> {
     let grant = grant(alloc)?;
@@ -83,24 +155,20 @@ fn visits<R: Wait>(
     let Ok(mut pass) = port.pass(rt, &mut hall, &grant.pad) else {
         return Ok(false);
     };
-    if port.login(rt, &mut pass, &grant, 2).is_err() {
-        return Ok(false);
+    let is_in = logs_in(rt, port, &mut pass, &grant);
+    match text {
+        Some(text) if is_in => sets_text(rt, alloc, port, &mut pass, text),
+        _ => Ok(is_in),
     }
-    let Some(text) = text else {
-        return Ok(true);
-    };
-    let text = Units::from_str(alloc, text)?;
-    Ok(port.set_text(rt, &mut pass, &text, 3).is_ok())
 }
 
 /// Whether a visitor's ear waits while it is there, and is gone once it has ended.
 fn goes<R: Wait>(rt: &R, alloc: Global, desk: &Desk) -> Result<bool, NoMemory> {
-    let (port, marks) = desk.visitor(alloc)?;
-    let entered = visits(rt, alloc, &port, None)?;
-    let waits = desk.bells.count(rt) == 1 && marks.is_there.load(Ordering::SeqCst);
-    port.end(rt);
-    let is_gone = !marks.is_there.load(Ordering::SeqCst);
-    Ok(entered && waits && is_gone && desk.bells.count(rt) == 0)
+    let visitor = desk.visitor(alloc)?;
+    let is_in = visits(rt, alloc, &visitor.port, None)?;
+    let waits = desk.waiting(rt) == 1 && visitor.has_ear();
+    visitor.port.end(rt);
+    Ok(is_in && waits && !visitor.has_ear() && desk.waiting(rt) == 0)
 }
 
 #[test]
@@ -114,13 +182,11 @@ fn an_ear_goes_with_its_session(rt: HostRuntime) -> Result<(), Fail> {
 
 /// Who is woken where the second of two visitors sets the text: the first, and the second.
 fn woken<R: Wait>(rt: &R, alloc: Global, desk: &Desk) -> Result<(bool, bool), NoMemory> {
-    let (reader, of_reader) = desk.visitor(alloc)?;
-    let (writer, of_writer) = desk.visitor(alloc)?;
-    let both = visits(rt, alloc, &reader, None)? && visits(rt, alloc, &writer, Some("new"))?;
-    Ok((
-        both && of_reader.is_rung.load(Ordering::SeqCst),
-        of_writer.is_rung.load(Ordering::SeqCst),
-    ))
+    let reader = desk.visitor(alloc)?;
+    let writer = desk.visitor(alloc)?;
+    let both = visits(rt, alloc, &reader.port, None)?
+        && visits(rt, alloc, &writer.port, Some("new"))?;
+    Ok((both && reader.is_rung(), writer.is_rung()))
 }
 
 #[test]

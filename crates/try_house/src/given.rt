@@ -25,16 +25,21 @@ pub const DRAWN: Drawn = Drawn {
 
 pub fn id(alloc: Global, name: &str) -> Result<PadId, NoMemory> {
     let text = Units::from_str(alloc, name)?;
-    PadId::read(alloc, &text)?.ok_or(NoMemory)
+    let id = PadId::read(alloc, &text)?;
+    id.ok_or(NoMemory)
 }
 
 /// Leave for an author to enter the pad `a`.
 pub fn grant(alloc: Global) -> Result<Grant, NoMemory> {
+    let pad = id(alloc, "a")?;
+    let asked = Units::from_str(alloc, "a")?;
+    let author = Units::from_str(alloc, "a.1")?;
+    let token_author = Units::from_str(alloc, "a.1")?;
     Ok(Grant {
-        pad: id(alloc, "a")?,
-        asked: Units::from_str(alloc, "a")?,
-        author: Units::from_str(alloc, "a.1")?,
-        token_author: Units::from_str(alloc, "a.1")?,
+        pad,
+        asked,
+        author,
+        token_author,
         member: false,
         read_only: false,
     })
@@ -52,5 +57,7 @@ pub fn machine(alloc: Global) -> Result<PadMachine<MemDisk>, Fail>
 }
 
 pub fn has_text(alloc: Global, doc: &Doc, text: &str) -> Result<bool, NoMemory> {
-    Ok(doc.text(alloc)?.to_text_lossy(alloc)?.as_str() == text)
+    let units = doc.text(alloc)?;
+    let found = units.to_text_lossy(alloc)?;
+    Ok(found.as_str() == text)
 }

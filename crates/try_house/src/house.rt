@@ -2,6 +2,7 @@
 
 ghost use Rattle.std.specs.Prelude.{◌≡◌, true, IfOk};
 
+use crate::directory;
 use crate::given::{DRAWN, LIMITS, grant, has_text, id, machine};
 use ep_cs::Change;
 use ep_disk_mem::{MemDisk, MemFile, MemShelf};
@@ -47,13 +48,23 @@ fn file(alloc: Global, name: &str, text: &str) -> Result<MemFile, Fail> {
     Ok(MemFile { name, bytes, fails })
 }
 
+fn files(alloc: Global, rows: &[(&str, &str)]) -> Result<Vec<MemFile>, Fail> {
+    let mut files = Vec::new(alloc);
+    for (name, text) in rows {
+        let file = file(alloc, name, text)?;
+        files.push(file)?;
+    }
+    Ok(files)
+}
+
 pub fn opened(
     alloc: Global,
     files: Vec<MemFile>,
     fails: &[u64],
     pads: u64,
 ) -> Result<MemHouse, Fail> {
-    let shelf = MemShelf::new(alloc, files, Vec::from_slice(alloc, fails)?)?;
+    let fails = Vec::from_slice(alloc, fails)?;
+    let shelf = MemShelf::new(alloc, files, fails)?;
     let keeper = MapKeeper::new(alloc, Vec::new(alloc));
     Ok(House::open(alloc, shelf, keeper, Limits { pads, ..LIMITS })?)
 }
@@ -68,7 +79,8 @@ fn enter<R: Wait, P: PadPort>(
     ensures { P.is_of port.now pass.new }
 {
     let grant = grant(alloc)?;
-    Ok(port.login(rt, pass, &grant, 5)?.session)
+    let welcome = port.login(rt, pass, &grant, 5)?;
+    Ok(welcome.session)
 }
 
 fn come_back<R: Wait, P: PadPort>(
@@ -116,6 +128,21 @@ fn newline<R: Wait, P: PadPort>(
     Ok(Some(newline_change(alloc, &doc)?))
 }
 
+/// Whether a session is shown the edit.
+fn shows<R: Wait, P: PadPort>(
+    rt: &R,
+    port: &P,
+    pass: &mut P::Pass,
+    me: Session,
+) -> Result<bool, PadBad>
+    requires { P.is_of port.now pass.old }
+    ensures { P.is_of port.now pass.new }
+{
+    let fetched = port.fetch(rt, pass, me, 0, 0)?;
+    let piece = port.history(rt, pass, me, 0, 9)?;
+    Ok(fetched.head == 2 && piece.revs.len() == 2)
+}
+
 /// A session's edit, and how it is read.
 fn edits<R: Wait, P: PadPort>(
     rt: &R,
@@ -131,48 +158,66 @@ fn edits<R: Wait, P: PadPort>(
     let Some(change) = newline(rt, alloc, port, pass)? else {
         return Ok(false);
     };
-    let rev = port.accept(rt, pass, me, 1, change, 7)?.rev;
-    let head = port.fetch(rt, pass, me, 0, 0)?.head;
-    let revs = port.history(rt, pass, me, 0, 9)?.revs.len();
-    Ok(rev == 2 && head == 2 && revs == 2)
+    let taken = port.accept(rt, pass, me, 1, change, 7)?;
+    Ok(taken.rev == 2 && shows(rt, port, pass, me)?)
 }
 
-/// Who comes back and leaves, and a pad's next birth.
-fn births<R: Wait, P: PadPort>(
+/// Who comes back and leaves: the head then.
+fn leaves<R: Wait, P: PadPort>(
     rt: &R,
     alloc: Global,
     port: &P,
     pass: &mut P::Pass,
-) -> Result<bool, PadBad>
+) -> Result<u64, PadBad>
     requires { P.is_of port.now pass.old }
     ensures { P.is_of port.now pass.new }
 {
     let me = come_back(rt, alloc, port, pass)?;
     port.leave(rt, pass, me)?;
     port.set_public(rt, pass, true)?;
-    let head = port.status(rt, pass)?.head;
+    let status = port.status(rt, pass)?;
+    Ok(status.head)
+}
+
+/// A pad's next birth.
+fn birth<R: Wait, P: PadPort>(
+    rt: &R,
+    alloc: Global,
+    port: &P,
+    pass: &mut P::Pass,
+) -> Result<u64, PadBad>
+    requires { P.is_of port.now pass.old }
+    ensures { P.is_of port.now pass.new }
+{
     port.delete(rt, pass, 9)?;
     let text = Units::from_str(alloc, "c")?;
-    let birth = port.create(rt, pass, &text, 10)?;
-    Ok(head == 2 && birth == 2)
+    port.create(rt, pass, &text, 10)
+}
+
+fn all_answer<R: Wait, P: PadPort>(
+    rt: &R,
+    alloc: Global,
+    port: &P,
+    pass: &mut P::Pass,
+) -> Result<bool, PadBad>
+    requires { P.is_of port.now pass.old }
+{
+    let edits = edits(rt, alloc, port, pass)?;
+    let head = leaves(rt, alloc, port, pass)?;
+    let birth = birth(rt, alloc, port, pass)?;
+    Ok(edits && head == 2 && birth == 2)
 }
 
 fn answers<R: Wait, P: PadPort>(rt: &R, alloc: Global, port: &P) -> Result<bool, PadBad> {
+    if port.limits() != LIMITS {
+        return Ok(false);
+    }
     let name = id(alloc, "a")?;
     let mut hall = port.hall(rt);
     let Ok(mut pass) = port.pass(rt, &mut hall, &name) else {
         return Ok(false);
     };
-    Ok(edits(rt, alloc, port, &mut pass)? && births(rt, alloc, port, &mut pass)?)
-}
-
-#[test]
-fn each_call_of_a_port_answers(rt: HostRuntime) -> Result<(), Fail> {
-    let alloc = rt.alloc();
-    let house = opened(alloc, Vec::new(alloc), &[], 2)?;
-    assert!(&rt; house.limits() == LIMITS);
-    assert!(&rt; matches!(answers(&rt, alloc, &house), Ok(true)));
-    Ok(())
+    all_answer(rt, alloc, port, &mut pass)
 }
 
 /// The directory's grant of a pad to somebody with a token.
@@ -197,18 +242,6 @@ fn enters<R: Wait, P: PadPort>(rt: &R, port: &P, grant: &Grant) -> bool {
     }
 }
 
-/// The directory of a house and its pads, by one value.
-#[test]
-fn who_is_granted_a_pad_may_enter(rt: HostRuntime) -> Result<(), Fail> {
-    let alloc = rt.alloc();
-    let house = opened(alloc, Vec::new(alloc), &[], 2)?;
-    let Ok(grant) = granted(&rt, alloc, &house, "a") else {
-        panic!(&rt; "no grant")
-    };
-    assert!(&rt; enters(&rt, &house, &grant));
-    Ok(())
-}
-
 /// Whether a pad has this text.
 fn reads<R: Wait, P: PadPort>(
     rt: &R,
@@ -231,6 +264,9 @@ fn reads<R: Wait, P: PadPort>(
     }
 }
 
+/// Stored pads, each with its text.
+const STORED: [(&str, &str); 2] = [("b", "three\n"), ("a", "one\n")];
+
 /// One hall is given pads with these texts.
 fn read_all<R: Wait + Abort, P: PadPort>(
     rt: &R,
@@ -245,15 +281,6 @@ fn read_all<R: Wait + Abort, P: PadPort>(
             "pad {name}"
         );
     }
-    Ok(())
-}
-
-#[test]
-fn a_stored_pad_comes_back(rt: HostRuntime) -> Result<(), Fail> {
-    let alloc = rt.alloc();
-    let files = vec![in alloc; file(alloc, "a", "one")?, file(alloc, "b", "three")?]?;
-    let house = opened(alloc, files, &[], 2)?;
-    read_all(&rt, alloc, &house, &[("b", "three\n"), ("a", "one\n")])?;
     Ok(())
 }
 
@@ -278,6 +305,14 @@ fn refused<R: Wait, P: PadPort>(
     })
 }
 
+/// Pads that are asked for on a shelf whose first call fails, where one is the most: why each is refused.
+const REFUSALS: [(&str, &str, u64); 4] = [
+    ("a", "shelf", 1),
+    ("a", "given", 0),
+    ("b", "pads", 1),
+    ("a", "given", 0),
+];
+
 /// One hall is refused pads for these causes.
 fn refuse_all<R: Wait + Abort, P: PadPort>(
     rt: &R,
@@ -296,16 +331,88 @@ fn refuse_all<R: Wait + Abort, P: PadPort>(
     Ok(())
 }
 
+/// Whether who is granted a pad may log in to it.
+fn grants<R: Wait, P: PadPort + DirPort>(rt: &R, alloc: Global, port: &P) -> bool {
+    match granted(rt, alloc, port, "a") {
+        Ok(grant) => enters(rt, port, &grant),
+        Err(_) => false,
+    }
+}
+
+/// What is asked of a house.
+#[derive(Clone, Copy)]
+pub enum Asked {
+    EachCall,
+    EachCallOfDirectory,
+    Grant,
+    Stored,
+    Refused,
+}
+
+/// Whether a house is as it is asked.
+fn is_so<R: Wait + Abort, P: PadPort + DirPort>(
+    rt: &R,
+    alloc: Global,
+    port: &P,
+    asked: Asked,
+) -> bool {
+    match asked {
+        Asked::EachCall => matches!(answers(rt, alloc, port), Ok(true)),
+        Asked::EachCallOfDirectory => directory::answers(rt, alloc, port).is_ok(),
+        Asked::Grant => grants(rt, alloc, port),
+        Asked::Stored => read_all(rt, alloc, port, &STORED).is_ok(),
+        Asked::Refused => refuse_all(rt, alloc, port, &REFUSALS).is_ok(),
+    }
+}
+
+/// The same of a house in memory with so many pads at most. Whoever owns one is dear to prove, so it stands once.
+pub fn is_so_in_memory<R: Wait + Abort>(
+    rt: &R,
+    alloc: Global,
+    files: Vec<MemFile>,
+    fails: &[u64],
+    pads: u64,
+    asked: Asked,
+) -> Result<bool, Fail> {
+    let house = opened(alloc, files, fails, pads)?;
+    Ok(is_so(rt, alloc, &house, asked))
+}
+
+/// The same of an empty one.
+fn is_so_empty<R: Wait + Abort>(rt: &R, alloc: Global, asked: Asked) -> Result<bool, Fail> {
+    is_so_in_memory(rt, alloc, Vec::new(alloc), &[], 2, asked)
+}
+
+#[test]
+fn each_call_of_a_port_answers(rt: HostRuntime) -> Result<(), Fail> {
+    assert!(&rt; is_so_empty(&rt, rt.alloc(), Asked::EachCall)?);
+    Ok(())
+}
+
+#[test]
+fn each_call_of_its_directory_answers(rt: HostRuntime) -> Result<(), Fail> {
+    assert!(&rt; is_so_empty(&rt, rt.alloc(), Asked::EachCallOfDirectory)?);
+    Ok(())
+}
+
+/// The directory of a house and its pads, by one value.
+#[test]
+fn who_is_granted_a_pad_may_enter(rt: HostRuntime) -> Result<(), Fail> {
+    assert!(&rt; is_so_empty(&rt, rt.alloc(), Asked::Grant)?);
+    Ok(())
+}
+
+#[test]
+fn a_stored_pad_comes_back(rt: HostRuntime) -> Result<(), Fail> {
+    let alloc = rt.alloc();
+    let files = files(alloc, &[("a", "one"), ("b", "three")])?;
+    assert!(&rt; is_so_in_memory(&rt, alloc, files, &[], 2, Asked::Stored)?);
+    Ok(())
+}
+
 #[test]
 fn refusals_have_their_causes(rt: HostRuntime) -> Result<(), Fail> {
     let alloc = rt.alloc();
-    let house = opened(alloc, Vec::new(alloc), &[1], 1)?;
-    let rows = [
-        ("a", "shelf", 1),
-        ("a", "given", 0),
-        ("b", "pads", 1),
-        ("a", "given", 0),
-    ];
-    refuse_all(&rt, alloc, &house, &rows)?;
+    assert!(&rt; is_so_in_memory(&rt, alloc, Vec::new(alloc), &[1], 1, Asked::Refused)?);
     Ok(())
 }

@@ -8,7 +8,8 @@ mod toy;
 
 use crate::given::{LIMITS, id};
 use ep_disk_mem::{MemDisk, MemFile, MemShelf};
-use ep_house::{Hall, PadPass, Pads};
+use ep_house::{Hall, PadOver, PadPass, Pads};
+use ep_outside::Shelf;
 use ep_pad::{PadBad, PadEntry, PadMachine, PadReply, PassBad};
 use ep_units::{NoMemory, Units};
 use held::{Gate, HeldDisk, HeldShelf, waits};
@@ -18,7 +19,7 @@ use std::sync::atomic::Ordering;
 use std::sync::{Arc, Wait};
 use std::test::Fail;
 use std::thread::join;
-use toy::{Toy, ToyBad, ToyEntry};
+use toy::{Toy, ToyEntry};
 
 type MemPads = Pads<MemShelf, Toy<MemDisk>>;
 
@@ -39,9 +40,14 @@ fn file(alloc: Global, name: &str, text: &str, fails: &[u64]) -> Result<MemFile,
     Ok(MemFile { name, bytes, fails })
 }
 
-fn opened(alloc: Global, files: Vec<MemFile>, fails: &[u64]) -> Result<MemPads, NoMemory> {
-    let fails = Vec::from_slice(alloc, fails)?;
-    Pads::open(alloc, MemShelf::new(alloc, files, fails)?, LIMITS)
+/// Files of these names and texts, whose disks' calls of these numbers fail.
+fn files(alloc: Global, rows: &[(&str, &str, &[u64])]) -> Result<Vec<MemFile>, NoMemory> {
+    let mut files = Vec::new(alloc);
+    for (name, text, fails) in rows {
+        let file = file(alloc, name, text, fails)?;
+        files.push(file)?;
+    }
+    Ok(files)
 }
 
 /// What a pad reads, or why it is refused, with its number.
@@ -86,24 +92,33 @@ fn ask_all<R: Wait + Abort>(
     Ok(())
 }
 
+/// The same over these files. Whoever owns pads is dear to prove, so they stand once.
+fn ask_over<R: Wait + Abort>(
+    rt: &R,
+    alloc: Global,
+    files: Vec<MemFile>,
+    fails: &[u64],
+    rows: &[(&str, &str, u64)],
+) -> Result<(), NoMemory> {
+    let fails = Vec::from_slice(alloc, fails)?;
+    let shelf = MemShelf::new(alloc, files, fails)?;
+    let pads: MemPads = Pads::open(alloc, shelf, LIMITS)?;
+    ask_all(rt, alloc, &pads, rows)
+}
+
 #[test]
 fn a_stored_pad_comes_back(rt: HostRuntime) -> Result<(), Fail> {
     let alloc = rt.alloc();
-    let files = vec![in alloc;
-        file(alloc, "a", "one", &[])?,
-        file(alloc, "b", "three", &[])?,
-    ]?;
-    let pads = opened(alloc, files, &[])?;
+    let files = files(alloc, &[("a", "one", &[]), ("b", "three", &[])])?;
     let rows = [("b", "reads", 5), ("a", "reads", 3), ("b", "reads", 5)];
-    ask_all(&rt, alloc, &pads, &rows)?;
+    ask_over(&rt, alloc, files, &[], &rows)?;
     Ok(())
 }
 
 #[test]
 fn refusals_have_their_causes(rt: HostRuntime) -> Result<(), Fail> {
     let alloc = rt.alloc();
-    let files = vec![in alloc; file(alloc, "b", "three", &[1])?]?;
-    let pads = opened(alloc, files, &[1])?;
+    let files = files(alloc, &[("b", "three", &[1])])?;
     let rows = [
         ("b", "shelf", 1),
         ("b", "pad", 1),
@@ -112,38 +127,42 @@ fn refusals_have_their_causes(rt: HostRuntime) -> Result<(), Fail> {
         ("d", "pads", 2),
         ("b", "reads", 5),
     ];
-    ask_all(&rt, alloc, &pads, &rows)?;
+    ask_over(&rt, alloc, files, &[1], &rows)?;
     Ok(())
+}
+
+/// A pass of a pad. Where there is none there is no memory.
+fn pass_of<R: Wait, H: Shelf + Drop, P: PadOver<H::D>>(
+    rt: &R,
+    alloc: Global,
+    pads: &Pads<H, P>,
+    name: &str,
+) -> Result<PadPass<H, P>, NoMemory> {
+    let name = id(alloc, name)?;
+    let mut hall = pads.hall(rt);
+    match pads.pass(rt, &mut hall, &name) {
+        Ok(pass) => Ok(pass),
+        Err(_) => Err(NoMemory),
+    }
 }
 
 /// Pads whose first disk has the gate.
 fn held_pads(alloc: Global, gate: &Arc<Gate, Global>) -> Result<HeldPads, NoMemory> {
-    let shelf = MemShelf::new(alloc, Vec::new(alloc), Vec::new(alloc))?;
-    let shelf = HeldShelf::new(shelf, Arc::try_clone(gate)?);
+    let shelf = HeldShelf::new(alloc, Arc::try_clone(gate)?);
     Pads::open(alloc, shelf, LIMITS)
 }
 
-/// Passes of two pads.
-fn two_passes<R: Wait>(
-    rt: &R,
-    alloc: Global,
-    pads: &HeldPads,
-) -> Result<Option<(HeldPass, HeldPass)>, NoMemory> {
-    let a = id(alloc, "a")?;
-    let b = id(alloc, "b")?;
-    let mut hall = pads.hall(rt);
-    match (pads.pass(rt, &mut hall, &a), pads.pass(rt, &mut hall, &b)) {
-        (Ok(a), Ok(b)) => Ok(Some((a, b))),
-        _ => Ok(None),
-    }
+/// Whether a pad adds this to that total.
+fn adds<R: Wait>(rt: &R, pass: &mut HeldPass, n: u64, total: u64) -> bool {
+    pass.call(rt, ToyEntry::Add(n)) == Ok(total)
 }
 
 /// Waits until the first disk is in its sync, adds to the second pad, and lets the first go on.
-fn add_meanwhile<R: Wait>(rt: &R, pass: &mut HeldPass, gate: &Gate) -> (bool, Result<u64, ToyBad>) {
-    let begun = waits(&gate.begun);
-    let answer = pass.call(rt, ToyEntry::Add(7));
+fn adds_meanwhile<R: Wait>(rt: &R, pass: &mut HeldPass, gate: &Gate) -> bool {
+    let has_begun = waits(&gate.begun);
+    let adds = adds(rt, pass, 7, 8);
     gate.opened.store(true, Ordering::SeqCst);
-    (begun, answer)
+    has_begun && adds
 }
 
 /// Pad A's disk holds a sync until pad B has answered.
@@ -152,19 +171,16 @@ fn two_pads_at_once(rt: HostRuntime) -> Result<(), Fail> {
     let alloc = rt.alloc();
     let gate = Arc::new(alloc, Gate::new())?;
     let pads = held_pads(alloc, &gate)?;
-    let Some((mut a, mut b)) = two_passes(&rt, alloc, &pads)? else {
-        panic!(&rt; "no passes")
-    };
-    assert_eq!(&rt; a.call(&rt, ToyEntry::Add(1)), Ok(1));
-    assert_eq!(&rt; b.call(&rt, ToyEntry::Add(1)), Ok(1));
+    let mut a = pass_of(&rt, alloc, &pads, "a")?;
+    let mut b = pass_of(&rt, alloc, &pads, "b")?;
+    assert!(&rt; adds(&rt, &mut a, 1, 1) && adds(&rt, &mut b, 1, 1));
     gate.armed.store(true, Ordering::SeqCst);
     let (first, second) = join(
         &rt,
-        || a.call(&rt, ToyEntry::Add(5)),
-        || add_meanwhile(&rt, &mut b, &gate),
+        || adds(&rt, &mut a, 5, 6),
+        || adds_meanwhile(&rt, &mut b, &gate),
     );
-    assert_eq!(&rt; first, Ok(6));
-    assert_eq!(&rt; second, (true, Ok(8)));
+    assert!(&rt; first && second);
     assert!(&rt;
         !gate.late.load(Ordering::SeqCst),
         "pad A's sync waited too long"
@@ -190,14 +206,8 @@ fn is_gone<R: Wait>(rt: &R, pass: &mut FilePass) -> bool {
 
 /// One pass makes the pad, another deletes it, and the first reads that it is gone.
 fn lives<R: Wait>(rt: &R, alloc: Global, pads: &FilePads) -> Result<bool, NoMemory> {
-    let name = id(alloc, "p")?;
-    let mut hall = pads.hall(rt);
-    let (Ok(mut one), Ok(mut two)) = (
-        pads.pass(rt, &mut hall, &name),
-        pads.pass(rt, &mut hall, &name),
-    ) else {
-        return Ok(false);
-    };
+    let mut one = pass_of(rt, alloc, pads, "p")?;
+    let mut two = pass_of(rt, alloc, pads, "p")?;
     Ok(is_born(rt, alloc, &mut one)? && is_deleted(rt, &mut two) && is_gone(rt, &mut one))
 }
 

@@ -1,11 +1,7 @@
 //! A shelf whose first disk holds a sync until it is let go.
 
-ghost use Rattle.std.specs.Prelude.{◌≡◌};
-ghost use Rattle.std.proofs.Common.{inl};
-ghost use Rattle.ep_disk_mem.specs.Held.{contents_of, only_here};
-ghost use Rattle.ep_disk_mem.specs.DiskCalls.{never};
+ghost use Rattle.std.specs.Prelude.{◌≡◌, None, true, refl};
 
-use ep_disk_mem::{MemDisk, MemShelf};
 use ep_outside::{Device, Disk, Failed, Shelf, ShelfBad};
 use ep_units::{NoMemory, PadId};
 use std::alloc::Global;
@@ -46,147 +42,145 @@ pub fn waits(flag: &AtomicBool) -> bool {
     false
 }
 
-/// A disk in memory, which may hold a sync.
+/// An empty disk, which tells nothing, forgets what is written, and may hold a sync.
 pub struct HeldDisk {
-    disk: MemDisk,
+    // the calls and the bytes for which there is room
+    calls: u64,
+    bytes: u64,
     gate: Option<Arc<Gate, Global>>,
 }
 
 impl Drop for HeldDisk {
     fn drop(self) {
-        let HeldDisk { disk: _, gate: _ } = self;
+        let HeldDisk {
+            calls: _,
+            bytes: _,
+            gate: _,
+        } = self;
     }
 }
 
-impl HeldDisk {
-    fn hold(&self) {
-        let Some(gate) = &self.gate else {
-            return;
-        };
-        if !gate.armed.load(Ordering::SeqCst) {
-            return;
-        }
-        gate.begun.store(true, Ordering::SeqCst);
-        if !waits(&gate.opened) {
-            gate.late.store(true, Ordering::SeqCst);
-        }
+/// The holder of a sync waits until the gate is opened, where it is armed.
+fn hold(gate: &Gate) {
+    if !gate.armed.load(Ordering::SeqCst) {
+        return;
+    }
+    gate.begun.store(true, Ordering::SeqCst);
+    if !waits(&gate.opened) {
+        gate.late.store(true, Ordering::SeqCst);
     }
 }
 
 impl Device for HeldDisk {
-    ghost failures = { λ d. ⟦<MemDisk as Device>⟧.failures d.disk };
+    ghost failures = { λ _. 0 };
 
-    ghost is_steady = { λ d. ⟦<MemDisk as Device>⟧.is_steady d.disk };
+    ghost is_steady = { λ _. true };
 
-    ghost plan = { λ d. ⟦<MemDisk as Device>⟧.plan d.disk };
-
-    ghost never_fails = { λ d steady. never d.disk.calls steady };
+    ghost never_fails = { λ _ _. refl };
 
     fn faults(&self) -> u64 {
-        self.disk.faults()
+        0
     }
 }
 
 impl Disk for HeldDisk {
-    ghost told = { λ d. ⟦<MemDisk as Disk>⟧.told d.disk };
+    ghost told = { λ _. None };
 
-    ghost moment = { λ d. ⟦<MemDisk as Disk>⟧.moment d.disk };
+    ghost moment = { λ _. 0 };
 
-    ghost since = { λ d t c. ⟦<MemDisk as Disk>⟧.since d.disk t c };
+    ghost since = { λ _ _ _. Unit {0} };
 
-    ghost room = { λ d. ⟦<MemDisk as Disk>⟧.room d.disk };
+    ghost room = { λ d. record { calls = d.calls; bytes = d.bytes } };
 
-    ghost left = { λ d. ⟦<MemDisk as Disk>⟧.left d.disk };
+    ghost counts_now = { λ _ _ _ _ _. tt };
 
-    ghost stops_alone = { λ d. ⟦<MemDisk as Disk>⟧.stops_alone d.disk };
+    ghost only_now = { λ _ _ _. tt };
 
-    ghost bytes_read = { λ d. ⟦<MemDisk as Disk>⟧.bytes_read d.disk };
-
-    ghost counts_now = { λ d t c le now. inl now };
-
-    ghost only_now = { λ d c left. only_here d.disk.past.items (contents_of d.disk.held) c left };
-
-    ghost reads_as_left = { λ d. d.disk.sound };
+    ghost reads_as_left = { λ _. tt };
 
     fn length(&mut self) -> Result<u64, Failed> {
-        self.disk.length()
+        Ok(0)
     }
 
-    fn read(&mut self, at: u64, into: &mut [u8]) -> Result<(), Failed> {
-        self.disk.read(at, into)
+    fn read(&mut self, _at: u64, _into: &mut [u8]) -> Result<(), Failed> {
+        Ok(())
     }
 
-    fn write_at(&mut self, at: u64, bytes: &[u8]) -> Result<(), Failed> {
-        self.disk.write_at(at, bytes)
+    fn write_at(&mut self, _at: u64, bytes: &[u8]) -> Result<(), Failed> {
+        self.calls -= 1;
+        self.bytes -= bytes.len() as u64;
+        Ok(())
     }
 
-    fn cut(&mut self, to: u64) -> Result<(), Failed> {
-        self.disk.cut(to)
+    fn cut(&mut self, _to: u64) -> Result<(), Failed> {
+        self.calls -= 1;
+        Ok(())
     }
 
     fn sync(&mut self) -> Result<(), Failed> {
-        self.hold();
-        self.disk.sync()
+        self.calls -= 1;
+        if let Some(gate) = &self.gate {
+            hold(gate);
+        }
+        Ok(())
     }
 
     fn reserve(&mut self, bytes: u64) -> Result<(), NoMemory> {
-        self.disk.reserve(bytes)
+        self.calls = 4;
+        self.bytes = bytes;
+        Ok(())
     }
 }
 
-/// A shelf in memory, whose first disk has the gate.
+/// A shelf of such disks, of which the first has the gate.
 pub struct HeldShelf {
-    shelf: MemShelf,
+    alloc: Global,
     gate: Option<Arc<Gate, Global>>,
 }
 
 impl Drop for HeldShelf {
     fn drop(self) {
-        let HeldShelf { shelf: _, gate: _ } = self;
+        let HeldShelf { alloc: _, gate: _ } = self;
     }
 }
 
 impl HeldShelf {
-    pub fn new(shelf: MemShelf, gate: Arc<Gate, Global>) -> HeldShelf {
+    pub fn new(alloc: Global, gate: Arc<Gate, Global>) -> HeldShelf {
         HeldShelf {
-            shelf,
+            alloc,
             gate: Some(gate),
         }
     }
 }
 
 impl Device for HeldShelf {
-    ghost failures = { λ s. ⟦<MemShelf as Device>⟧.failures s.shelf };
+    ghost failures = { λ _. 0 };
 
-    ghost is_steady = { λ s. ⟦<MemShelf as Device>⟧.is_steady s.shelf };
+    ghost is_steady = { λ _. true };
 
-    ghost plan = { λ s. ⟦<MemShelf as Device>⟧.plan s.shelf };
-
-    ghost never_fails = { λ s steady. (s.shelf.sure steady).1 };
+    ghost never_fails = { λ _ _. refl };
 
     fn faults(&self) -> u64 {
-        self.shelf.faults()
+        0
     }
 }
 
 impl Shelf for HeldShelf {
     type D = HeldDisk;
 
-    ghost names = { λ s. ⟦<MemShelf as Shelf>⟧.names s.shelf };
+    ghost names = { λ _. None };
 
-    ghost told = { λ s name. ⟦<MemShelf as Shelf>⟧.told s.shelf name };
+    ghost told = { λ _ _. None };
 
     fn names(&mut self) -> Result<Vec<PadId>, ShelfBad> {
-        self.shelf.names()
+        Ok(Vec::new(self.alloc))
     }
 
-    fn open(&mut self, name: &PadId) -> Result<HeldDisk, ShelfBad> {
-        match self.shelf.open(name) {
-            Ok(disk) => Ok(HeldDisk {
-                disk,
-                gate: self.gate.take(),
-            }),
-            Err(error) => Err(error),
-        }
+    fn open(&mut self, _name: &PadId) -> Result<HeldDisk, ShelfBad> {
+        Ok(HeldDisk {
+            calls: 0,
+            bytes: 0,
+            gate: self.gate.take(),
+        })
     }
 }
