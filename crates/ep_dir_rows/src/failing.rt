@@ -43,7 +43,8 @@ fn failed(
     answers: &[String],
     failing: u64,
 ) -> Result<Outcome, NoMemory> {
-    let mut dir = DirMachine::new(alloc, MapKeeper::new(alloc, vec![in alloc; failing]?));
+    let fails = vec![in alloc; failing]?;
+    let mut dir = DirMachine::new(alloc, MapKeeper::new(alloc, fails));
     let mut outcome = Outcome::Unmet;
     for (at, line) in script.iter().enumerate() {
         let mut met = false;
@@ -66,10 +67,15 @@ fn is_at(answers: &[String], at: usize, line: &str) -> bool {
 }
 
 // How many failures each line met, and how many changed something.
-#[derive(Drop)]
 struct Counted {
     met: Vec<u64>,
     changes: u64,
+}
+
+impl Drop for Counted {
+    fn drop(self) {
+        let Counted { met: _, changes: _ } = self;
+    }
 }
 
 fn count_one(counted: &mut Counted, outcome: Outcome) {

@@ -27,9 +27,11 @@ fn cut_word(text: &str) -> (&str, &str) {
 /// The pair of a key and a value.
 pub fn held(alloc: Global, pair: &str) -> Result<Put, NoMemory> {
     let (key, value) = cut_word(pair);
+    let key = Text::from_str(alloc, key)?;
+    let value = Text::from_str(alloc, value)?;
     Ok(Put {
-        key: Text::from_str(alloc, key)?,
-        value: Some(Text::from_str(alloc, value)?),
+        key,
+        value: Some(value),
     })
 }
 
@@ -135,7 +137,8 @@ fn read_only(alloc: Global, id: &str) -> Result<Option<DirEntry>, NoMemory> {
 fn ids(alloc: Global, text: &str) -> Result<Listed<Units>, NoMemory> {
     let mut ids = Listed::new(alloc);
     for id in text.split(',') {
-        ids.push(Units::from_str(alloc, id)?)?;
+        let id = Units::from_str(alloc, id)?;
+        ids.push(id)?;
     }
     Ok(ids)
 }
@@ -147,10 +150,13 @@ fn grant(alloc: Global, rest: &str) -> Result<Option<DirEntry>, NoMemory> {
     let Ok(at) = at.parse::<u64>() else {
         return Ok(None);
     };
+    let asked = Units::from_str(alloc, asked)?;
+    let sessions = ids(alloc, sessions)?;
+    let token = Units::from_str(alloc, token)?;
     Ok(Some(DirEntry::Grant(GrantAsked {
-        asked: Units::from_str(alloc, asked)?,
-        sessions: ids(alloc, sessions)?,
-        token: Units::from_str(alloc, token)?,
+        asked,
+        sessions,
+        token,
         at,
         drawn: DRAWN,
     })))
@@ -163,9 +169,11 @@ fn create_session(alloc: Global, rest: &str) -> Result<Option<DirEntry>, NoMemor
     let (Ok(valid_until), Ok(at)) = (valid_until.parse::<u64>(), at.parse::<u64>()) else {
         return Ok(None);
     };
+    let group = Units::from_str(alloc, group)?;
+    let author = Units::from_str(alloc, author)?;
     Ok(Some(DirEntry::CreateSession(SessionAsked {
-        group: Units::from_str(alloc, group)?,
-        author: Units::from_str(alloc, author)?,
+        group,
+        author,
         valid_until,
         at,
         drawn: DRAWN,

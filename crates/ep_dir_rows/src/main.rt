@@ -18,27 +18,49 @@ mod shown;
 use anyhow::Result;
 use ep_keep::MapKeeper;
 use ep_keep_sql::{FileKeeper, SqlKeeper};
+use ep_units::NoMemory;
+use std::alloc::Global;
 use std::{env, fs};
 
 /// The lines of standard input, those with ` : ` in them apart.
-#[derive(Drop)]
 struct Script {
     calls: Vec<String>,
     foreign: Vec<String>,
 }
 
-fn read_script(rt: &HostRuntime) -> Result<Script> {
-    let mut calls = Vec::new(rt.alloc());
-    let mut foreign = Vec::new(rt.alloc());
-    for line in rt.lines(rt.alloc()) {
-        let line = line?;
-        if line.contains(" : ") {
-            foreign.push(line)?;
-        } else {
-            calls.push(line)?;
+impl Drop for Script {
+    fn drop(self) {
+        let Script {
+            calls: _,
+            foreign: _,
+        } = self;
+    }
+}
+
+impl Script {
+    fn new(alloc: Global) -> Script {
+        Script {
+            calls: Vec::new(alloc),
+            foreign: Vec::new(alloc),
         }
     }
-    Ok(Script { calls, foreign })
+
+    fn push(&mut self, line: String) -> Result<()> {
+        if line.contains(" : ") {
+            self.foreign.push(line)?;
+        } else {
+            self.calls.push(line)?;
+        }
+        Ok(())
+    }
+}
+
+fn read_script(rt: &HostRuntime) -> Result<Script> {
+    let mut script = Script::new(rt.alloc());
+    for line in rt.lines(rt.alloc()) {
+        script.push(line?)?;
+    }
+    Ok(script)
 }
 
 fn print(rt: &HostRuntime, title: &str, lines: &[String]) -> Result<()> {
@@ -49,30 +71,46 @@ fn print(rt: &HostRuntime, title: &str, lines: &[String]) -> Result<()> {
     Ok(())
 }
 
-/// The keeper over a file of its own, which an earlier run may have left.
-fn file_keeper(rt: &HostRuntime) -> Result<FileKeeper> {
-    for path in ["directory.db", "directory.db-wal"] {
-        if fs::exists(rt, path)? {
-            fs::remove_file(rt, path)?;
-        }
+/// Removes a file that an earlier run may have left.
+fn remove(rt: &HostRuntime, path: &str) -> Result<()> {
+    if fs::exists(rt, path)? {
+        fs::remove_file(rt, path)?;
     }
-    Ok(FileKeeper::open(rt, "directory.db")?)
+    Ok(())
+}
+
+/// Plays a script on a table in memory.
+fn on_table(alloc: Global, calls: &[String]) -> Result<Vec<String>> {
+    let keeper = SqlKeeper::in_memory(alloc)?;
+    Ok(played::answers(alloc, keeper, calls)?)
+}
+
+/// Plays a script on the table of a file, as it is there.
+fn on_file(rt: &HostRuntime, path: &str, calls: &[String]) -> Result<Vec<String>> {
+    let keeper = FileKeeper::open(rt, path)?;
+    Ok(played::answers(rt.alloc(), keeper, calls)?)
+}
+
+/// Plays a script on a new file.
+fn on_new_file(rt: &HostRuntime, calls: &[String]) -> Result<Vec<String>> {
+    for path in ["directory.db", "directory.db-wal"] {
+        remove(rt, path)?;
+    }
+    on_file(rt, "directory.db", calls)
 }
 
 /// Plays a script on a file that is closed and opened again in the middle.
 fn opened_again(rt: &HostRuntime, calls: &[String]) -> Result<Vec<String>> {
     let (first, rest) = calls.split_at(calls.len() / 2);
-    let mut lines = played::answers(rt.alloc(), file_keeper(rt)?, first)?;
-    let again = FileKeeper::open(rt, "directory.db")?;
-    for line in played::answers(rt.alloc(), again, rest)? {
-        lines.push(line)?;
-    }
+    let mut lines = on_new_file(rt, first)?;
+    let mut more = on_file(rt, "directory.db", rest)?;
+    lines.append(&mut more)?;
     Ok(lines)
 }
 
 /// Says whether the answers are those of the map in memory.
-fn compare(rt: &HostRuntime, title: &str, lines: &[String], others: &[String]) -> Result<()> {
-    let word = if lines == others {
+fn compare(rt: &HostRuntime, title: &str, lines: Vec<String>, others: &[String]) -> Result<()> {
+    let word = if lines.as_slice() == others {
         "the same"
     } else {
         "others"
@@ -81,35 +119,42 @@ fn compare(rt: &HostRuntime, title: &str, lines: &[String], others: &[String]) -
     Ok(())
 }
 
-/// Plays a script on every keeper.
-fn play_all(rt: &HostRuntime, script: &Script) -> Result<()> {
-    let alloc = rt.alloc();
-    let in_memory = played::answers(alloc, MapKeeper::new(alloc, Vec::new(alloc)), &script.calls)?;
-    print(rt, "in memory", &in_memory)?;
-    let in_a_table = played::answers(alloc, SqlKeeper::in_memory(alloc)?, &script.calls)?;
-    compare(rt, "in a table", &in_a_table, &in_memory)?;
-    let in_a_file = played::answers(alloc, file_keeper(rt)?, &script.calls)?;
-    compare(rt, "in a file", &in_a_file, &in_memory)?;
-    compare(
-        rt,
-        "opened again",
-        &opened_again(rt, &script.calls)?,
-        &in_memory,
-    )?;
-    let counts = failing::counts(alloc, &script.calls, &in_memory)?;
-    print(rt, "calls of the keeper", &counts)?;
-    let foreign = played::foreign_answers(alloc, &script.foreign)?;
-    print(rt, "written by another", &foreign)
+/// Plays a script on each keeper over a database, and compares its answers with these.
+fn compare_all(rt: &HostRuntime, calls: &[String], others: &[String]) -> Result<()> {
+    compare(rt, "in a table", on_table(rt.alloc(), calls)?, others)?;
+    compare(rt, "in a file", on_new_file(rt, calls)?, others)?;
+    compare(rt, "opened again", opened_again(rt, calls)?, others)
 }
 
-/// Plays a script on the table of a file, as it is there.
+/// Plays a script on a map in memory.
+fn in_memory(alloc: Global, calls: &[String]) -> Result<Vec<String>, NoMemory> {
+    let keeper = MapKeeper::new(alloc, Vec::new(alloc));
+    played::answers(alloc, keeper, calls)
+}
+
+fn print_counts(rt: &HostRuntime, calls: &[String], answers: &[String]) -> Result<()> {
+    let counts = failing::counts(rt.alloc(), calls, answers)?;
+    print(rt, "calls of the keeper", &counts)
+}
+
+fn print_foreign(rt: &HostRuntime, lines: &[String]) -> Result<()> {
+    let answers = played::foreign_answers(rt.alloc(), lines)?;
+    print(rt, "written by another", &answers)
+}
+
+/// Plays a script on every keeper.
+fn play_all(rt: &HostRuntime, script: &Script) -> Result<()> {
+    let in_memory = in_memory(rt.alloc(), &script.calls)?;
+    print(rt, "in memory", &in_memory)?;
+    compare_all(rt, &script.calls, &in_memory)?;
+    print_counts(rt, &script.calls, &in_memory)?;
+    print_foreign(rt, &script.foreign)
+}
+
+/// Plays a script on the table of a file.
 fn play_on(rt: &HostRuntime, path: &str, script: &Script) -> Result<()> {
-    let keeper = FileKeeper::open(rt, path)?;
-    print(
-        rt,
-        path,
-        &played::answers(rt.alloc(), keeper, &script.calls)?,
-    )
+    let lines = on_file(rt, path, &script.calls)?;
+    print(rt, path, &lines)
 }
 
 fn main(rt: HostRuntime) -> Result<()> {

@@ -36,8 +36,9 @@ pub fn answers<K: Keeper + Drop>(
 
 // A keeper that holds one pair.
 fn holding(alloc: Global, pair: &str) -> Result<MapKeeper, NoMemory> {
+    let puts = [held(alloc, pair)?];
     let mut keeper = MapKeeper::new(alloc, Vec::new(alloc));
-    match keeper.put_all(&[held(alloc, pair)?]) {
+    match keeper.put_all(&puts) {
         Ok(()) | Err(KeepBad::Failed) => Ok(keeper),
         Err(KeepBad::NoMemory) => Err(NoMemory),
     }
@@ -46,7 +47,8 @@ fn holding(alloc: Global, pair: &str) -> Result<MapKeeper, NoMemory> {
 // What a line answers over a map that holds its pair alone.
 fn foreign_answer(alloc: Global, line: &str) -> Result<String, NoMemory> {
     let (pair, line) = cut(line, " : ");
-    let mut dir = DirMachine::new(alloc, holding(alloc, pair)?);
+    let keeper = holding(alloc, pair)?;
+    let mut dir = DirMachine::new(alloc, keeper);
     answer(alloc, &mut dir, line)
 }
 
