@@ -13,10 +13,11 @@ mod side;
 mod talk;
 mod told;
 
-use crate::random::drawn;
-use crate::talk::{Both, talk};
+use crate::random::{Lines, drawn};
+use crate::talk::{Both, Served, Wrote, talk};
 use crate::told::{read, session, written, wrote};
 use anyhow::{Context, Result, anyhow};
+use ep_units::NoMemory;
 use std::alloc::Global;
 use std::sync::Wait;
 use std::thread::Threads;
@@ -25,22 +26,35 @@ use std::thread::Threads;
 fn one<R: Threads + Wait + Sync>(rt: &R, alloc: Global, line: &str) -> Result<String> {
     let script = format!(in alloc; "{line}\n")?;
     let Both { wrote: told, .. } = talk(rt, alloc, &script)?;
-    Ok(wrote(alloc, &told?)?)
+    let told = told?;
+    Ok(wrote(alloc, &told)?)
+}
+
+/// What came of so many lines.
+fn told(
+    alloc: Global,
+    count: u64,
+    lines: &Lines,
+    wrote: &Wrote,
+    served: &Served,
+) -> Result<String, NoMemory> {
+    let wanted = lines.text(alloc)?;
+    let written = written(alloc, wrote, &wanted)?;
+    let read = read(alloc, served, &wanted)?;
+    let session = session(alloc, served)?;
+    Ok(format!(in alloc;
+        "{count} lines, {} alter something; {written}; {read}; {session}",
+        lines.altering
+    )?)
 }
 
 /// What comes of so many lines that a seed gives.
 fn many<R: Threads + Wait + Sync>(rt: &R, alloc: Global, seed: u64, count: u64) -> Result<String> {
     let lines = drawn(alloc, seed, count)?;
-    let wanted = lines.text(alloc)?;
     let Both { wrote, served } = talk(rt, alloc, &lines.script)?;
     let served = served?.context("the pad is not to be read")?;
-    let written = written(alloc, &wrote?, &wanted)?;
-    let read = read(alloc, &served, &wanted)?;
-    let session = session(alloc, &served)?;
-    Ok(format!(in alloc;
-        "{count} lines, {} alter something; {written}; {read}; {session}",
-        lines.altering
-    )?)
+    let wrote = wrote?;
+    Ok(told(alloc, count, &lines, &wrote, &served)?)
 }
 
 fn replied<R: Threads + Wait + Sync>(rt: &R, alloc: Global, line: &str) -> Result<String> {

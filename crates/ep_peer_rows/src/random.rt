@@ -18,13 +18,22 @@ const TEXTS: [(&str, &str); 7] = [
 const MOST: usize = 9;
 
 /// A script of edits of an empty pad, each of which fits and leaves the newline at the end.
-#[derive(Drop)]
 pub struct Lines {
     pub script: String,
     /// How many of its lines alter something.
     pub altering: u64,
     /// What the text is behind it.
     text: Vec<char>,
+}
+
+impl Drop for Lines {
+    fn drop(self) {
+        let Lines {
+            script: _,
+            altering: _,
+            text: _,
+        } = self;
+    }
 }
 
 /// Numbers that a seed gives.
@@ -77,7 +86,8 @@ impl Lines {
         let at = numbers.below(self.text.len());
         if let Some((spelled, text)) = TEXTS.get(numbers.below(TEXTS.len())) {
             self.text = replaced(alloc, &self.text, at, 0, text)?;
-            self.push(&format!(in alloc; "insert {at} {spelled}")?, true)?;
+            let line = format!(in alloc; "insert {at} {spelled}")?;
+            self.push(&line, true)?;
         }
         Ok(())
     }
@@ -85,16 +95,15 @@ impl Lines {
     fn delete(&mut self, alloc: Global, numbers: &mut Numbers) -> Result<(), NoMemory> {
         let (at, units) = self.stretch(numbers);
         self.text = replaced(alloc, &self.text, at, units, "")?;
-        self.push(&format!(in alloc; "delete {at} {units}")?, units > 0)
+        let line = format!(in alloc; "delete {at} {units}")?;
+        self.push(&line, units > 0)
     }
 
     fn format(&mut self, alloc: Global, numbers: &mut Numbers) -> Result<(), NoMemory> {
         let (at, units) = self.stretch(numbers);
         let value = if numbers.below(2) == 0 { "true" } else { "" };
-        self.push(
-            &format!(in alloc; "format {at} {units} bold {value}")?,
-            units > 0,
-        )
+        let line = format!(in alloc; "format {at} {units} bold {value}")?;
+        self.push(&line, units > 0)
     }
 
     /// What the text is behind all lines.
@@ -106,10 +115,11 @@ impl Lines {
 /// So many lines that a seed gives: of ten about six insert, two delete and two format.
 pub fn drawn(alloc: Global, seed: u64, count: u64) -> Result<Lines, NoMemory> {
     let mut numbers = Numbers { state: seed };
+    let text = Vec::from_slice(alloc, &['\n'])?;
     let mut lines = Lines {
         script: String::new(alloc),
         altering: 0,
-        text: Vec::from_slice(alloc, &['\n'])?,
+        text,
     };
     for _ in 0..count {
         match numbers.below(10) {

@@ -10,11 +10,20 @@ use std::alloc::Global;
 use std::sync::Wait;
 
 /// One side of a connection. Once it is dropped the other side hears that it is gone.
-#[derive(Drop)]
 pub struct Side {
     alloc: Global,
     to: Sender<String>,
     from: Receiver<String>,
+}
+
+impl Drop for Side {
+    fn drop(self) {
+        let Side {
+            alloc: _,
+            to: _,
+            from: _,
+        } = self;
+    }
 }
 
 /// Both sides of a connection.

@@ -43,7 +43,6 @@ pub enum Wrote {
 }
 
 /// What a session came to, and what another caller reads of its pad then.
-#[derive(Drop)]
 pub struct Served {
     /// It ended since the writer was gone.
     pub is_closed: bool,
@@ -55,11 +54,52 @@ pub struct Served {
     pub text: String,
 }
 
+impl Drop for Served {
+    fn drop(self) {
+        let Served {
+            is_closed: _,
+            taken: _,
+            cursor: _,
+            head: _,
+            live: _,
+            text: _,
+        } = self;
+    }
+}
+
 /// What both came to.
 #[derive(Drop)]
 pub struct Both {
     pub wrote: Result<Wrote, NoMemory>,
     pub served: Result<Option<Served>, NoMemory>,
+}
+
+fn pad_id(alloc: Global) -> Result<Option<PadId>, NoMemory> {
+    let name = Units::from_str(alloc, PAD)?;
+    PadId::read(alloc, &name)
+}
+
+/// What a pass reads of its pad.
+fn read_by<R: Wait, P: PadPort>(
+    rt: &R,
+    alloc: Global,
+    pads: &P,
+    pass: &mut P::Pass,
+    served: &mut Served,
+) -> Result<bool, NoMemory>
+    requires { P.is_of pads.now pass.old }
+{
+    let Ok(status) = pads.status(rt, pass) else {
+        return Ok(false);
+    };
+    let Ok(doc) = pads.text(rt, pass, None) else {
+        return Ok(false);
+    };
+    served.head = status.head;
+    served.live = status.live;
+    let text = doc.text(alloc)?;
+    served.text = text.to_text_lossy(alloc)?;
+    Ok(true)
 }
 
 /// What another caller reads of the pad behind a session.
@@ -69,23 +109,14 @@ fn read_pad<R: Wait, P: PadPort>(
     pads: &P,
     served: &mut Served,
 ) -> Result<bool, NoMemory> {
-    let Some(pad) = PadId::read(alloc, &Units::from_str(alloc, PAD)?)? else {
+    let Some(pad) = pad_id(alloc)? else {
         return Ok(false);
     };
     let mut hall = pads.hall(rt);
     let Ok(mut pass) = pads.pass(rt, &mut hall, &pad) else {
         return Ok(false);
     };
-    let Ok(status) = pads.status(rt, &mut pass) else {
-        return Ok(false);
-    };
-    let Ok(doc) = pads.text(rt, &mut pass, None) else {
-        return Ok(false);
-    };
-    served.head = status.head;
-    served.live = status.live;
-    served.text = doc.text(alloc)?.to_text_lossy(alloc)?;
-    Ok(true)
+    read_by(rt, alloc, pads, &mut pass, served)
 }
 
 /// Serves a side, and reads the pad then.
@@ -96,7 +127,8 @@ fn serve_on<R: Wait, P: PadPort, G: DirPort>(
     dir: &G,
     side: Side,
 ) -> Result<Option<Served>, NoMemory> {
-    let clock = MemClock::new(Vec::from_slice(alloc, &[5])?);
+    let moments = Vec::from_slice(alloc, &[5])?;
+    let clock = MemClock::new(moments);
     let mut draws = MemDraws::new(DRAWS);
     let mut link = side;
     let report = serve_session(rt, alloc, pads, dir, &mut link, &clock, &mut draws);
@@ -142,7 +174,10 @@ fn write<R: Wait>(rt: &R, alloc: Global, side: Side, script: &str) -> Result<Wro
     let token = Units::from_str(alloc, TOKEN)?;
     let mut link = side;
     match write_session(rt, alloc, &mut link, &mut source, &pad, &token) {
-        Ok(written) => Ok(Wrote::Written(written.rev, written.text.to_text_lossy(alloc)?)),
+        Ok(written) => {
+            let text = written.text.to_text_lossy(alloc)?;
+            Ok(Wrote::Written(written.rev, text))
+        }
         Err(PeerBad::Script(line, Reason::Place)) => Ok(Wrote::Place(line)),
         Err(_) => Ok(Wrote::Stopped),
     }
