@@ -35,7 +35,8 @@ fn source(alloc: Global, fails: &[u64]) -> Result<MemSource, Fail> {
 /// Whether it gives its three bytes.
 fn is_whole(alloc: Global, fails: &[u64]) -> Result<bool, Fail> {
     let mut source = source(alloc, fails)?;
-    Ok(read_all(alloc, &mut source, 3)?.as_slice() == b"abc".as_slice())
+    let bytes = read_all(alloc, &mut source, 3)?;
+    Ok(bytes.as_slice() == b"abc".as_slice())
 }
 
 fn refusal(alloc: Global, fails: &[u64]) -> Result<Option<ReadBad>, Fail> {
@@ -92,7 +93,8 @@ fn left(alloc: Global, image: Image) -> Result<Vec<u8>, Fail> {
 }
 
 fn is_left(alloc: Global, image: Image, bytes: &[u8]) -> Result<bool, Fail> {
-    Ok(left(alloc, image)?.as_slice() == bytes)
+    let left = left(alloc, image)?;
+    Ok(left.as_slice() == bytes)
 }
 
 /// Whether the torn image of that length and fill has these bytes.

@@ -59,7 +59,8 @@ fn read_text(alloc: Global, left: &[u8], is_broken: bool) -> Result<Vec<u8>, Rea
 
 /// Whether the whole text is read.
 fn is_read(alloc: Global, text: &str) -> Result<bool, ReadBad> {
-    Ok(read_text(alloc, text.as_bytes(), false)?.as_slice() == text.as_bytes())
+    let read = read_text(alloc, text.as_bytes(), false)?;
+    Ok(read.as_slice() == text.as_bytes())
 }
 
 #[test]

@@ -8,15 +8,15 @@ use std::test::Fail;
 
 fn id(alloc: Global, name: &str) -> Result<PadId, Fail> {
     let text = Units::from_str(alloc, name)?;
-    Ok(PadId::read(alloc, &text)?.ok_or(Failed)?)
+    let id = PadId::read(alloc, &text)?;
+    Ok(id.ok_or(Failed)?)
 }
 
 fn file(alloc: Global, name: &str, text: &str, fails: &[u64]) -> Result<MemFile, Fail> {
-    Ok(MemFile {
-        name: id(alloc, name)?,
-        bytes: Vec::from_slice(alloc, text.as_bytes())?,
-        fails: Vec::from_slice(alloc, fails)?,
-    })
+    let name = id(alloc, name)?;
+    let bytes = Vec::from_slice(alloc, text.as_bytes())?;
+    let fails = Vec::from_slice(alloc, fails)?;
+    Ok(MemFile { name, bytes, fails })
 }
 
 /// Four files, of which two have one name, in no order.
@@ -29,7 +29,8 @@ fn files(alloc: Global) -> Result<Vec<MemFile>, Fail> {
     ];
     let mut files = Vec::new(alloc);
     for (name, text, fails) in rows {
-        files.push(file(alloc, name, text, fails)?)?;
+        let file = file(alloc, name, text, fails)?;
+        files.push(file)?;
     }
     Ok(files)
 }
@@ -67,7 +68,8 @@ fn are_names<S: Shelf>(alloc: Global, shelf: &mut S, names: &str) -> Result<Opti
         return Ok(None);
     };
     let text = spelled(alloc, &found)?;
-    Ok(Some(text == Units::from_str(alloc, names)?))
+    let names = Units::from_str(alloc, names)?;
+    Ok(Some(text == names))
 }
 
 #[test]
