@@ -75,6 +75,39 @@ fn tell<R: Clock + Print>(rt: &R, who: &str, count: u64, start: Instant) -> Resu
     Ok(())
 }
 
+fn idle_cells(alloc: Global, count: usize) -> Result<Vec<Cell<Idle>>> {
+    let mut cells = Vec::new(alloc);
+    for _ in 0..count {
+        cells.push(idle_cell(alloc)?)?;
+    }
+    Ok(cells)
+}
+
+/// So many calls on one cell by one thread, and so many by each of four.
+fn time_one<R: Threads + Wait + Sync + Clock + Print>(
+    rt: &R,
+    cell: &Cell<Idle>,
+    count: u64,
+) -> Result<()> {
+    let start = Instant::now(rt)?;
+    calls(rt, cell, count);
+    tell(rt, "1 thread on 1 cell", count, start)?;
+    let start = Instant::now(rt)?;
+    on_one(rt, cell, 4, count);
+    tell(rt, "4 threads on 1 cell", count, start)
+}
+
+/// So many calls on each cell.
+fn time_each<R: Threads + Wait + Sync + Clock + Print>(
+    rt: &R,
+    cells: &[Cell<Idle>],
+    count: u64,
+) -> Result<()> {
+    let start = Instant::now(rt)?;
+    on_each(rt, cells, count);
+    tell(rt, "4 threads on 4 cells", count, start)
+}
+
 /// So many calls by one thread on one cell, and so many by each of four threads on one cell and on four.
 pub fn time<R: Threads + Wait + Sync + Clock + Print>(
     rt: &R,
@@ -82,21 +115,9 @@ pub fn time<R: Threads + Wait + Sync + Clock + Print>(
     count: u64,
 ) -> Result<()> {
     let one = idle_cell(alloc)?;
-    let cells = vec![in alloc;
-        idle_cell(alloc)?,
-        idle_cell(alloc)?,
-        idle_cell(alloc)?,
-        idle_cell(alloc)?,
-    ]?;
-    let start = Instant::now(rt)?;
-    calls(rt, &one, count);
-    tell(rt, "1 thread on 1 cell", count, start)?;
-    let start = Instant::now(rt)?;
-    on_one(rt, &one, 4, count);
-    tell(rt, "4 threads on 1 cell", count, start)?;
-    let start = Instant::now(rt)?;
-    on_each(rt, &cells, count);
-    tell(rt, "4 threads on 4 cells", count, start)
+    let cells = idle_cells(alloc, 4)?;
+    time_one(rt, &one, count)?;
+    time_each(rt, &cells, count)
 }
 
 /// With the words `cell COUNT`, how many calls of each thread are timed. `None` with any other first word.

@@ -89,35 +89,50 @@ fn write_ascii(text: &str, out: &mut Units) -> Result<(), NoMemory> {
     Ok(())
 }
 
-/// The changeset text of a small edit of a document: at a random place one to three equal letters are inserted with
-/// the first attribute of the pool, or one to three units are dropped.
-pub fn edit(alloc: Global, doc: &[u16], draws: &mut Draws) -> Result<Units, NoMemory> {
-    let mut out = Units::new(alloc);
+/// Behind the length of a document, the changeset text that keeps these units and inserts so many equal ones with the first
+/// attribute of the pool.
+fn write_insertion(kept: &[u16], count: usize, unit: u16, out: &mut Units) -> Result<(), NoMemory> {
+    write_ascii(">", out)?;
+    write36(count as u64, out)?;
+    write_stretch(None, b'=', kept, out)?;
+    write_ascii("*0+", out)?;
+    write36(count as u64, out)?;
+    write_ascii("$", out)?;
+    for _ in 0..count {
+        out.push(unit)?;
+    }
+    Ok(())
+}
+
+/// Behind the length of a document, the changeset text that keeps these units and drops those.
+fn write_removal(kept: &[u16], gone: &[u16], out: &mut Units) -> Result<(), NoMemory> {
+    write_ascii("<", out)?;
+    write36(gone.len() as u64, out)?;
+    write_stretch(None, b'=', kept, out)?;
+    write_stretch(None, b'-', gone, out)?;
+    write_ascii("$", out)
+}
+
+fn write_edit(doc: &[u16], draws: &mut Draws, out: &mut Units) -> Result<(), NoMemory> {
     let at = draws
         .pick(doc.len().saturating_sub(10).max(1))
         .min(doc.len());
     let count = 1 + draws.pick(3);
-    write_ascii("Z:", &mut out)?;
-    write36(doc.len() as u64, &mut out)?;
+    write_ascii("Z:", out)?;
+    write36(doc.len() as u64, out)?;
+    let kept = &doc[..at];
     if draws.pick(4) > 0 {
-        write_ascii(">", &mut out)?;
-        write36(count as u64, &mut out)?;
-        write_stretch(None, b'=', &doc[..at], &mut out)?;
-        write_ascii("*0+", &mut out)?;
-        write36(count as u64, &mut out)?;
-        write_ascii("$", &mut out)?;
         let unit = letter(draws);
-        for _ in 0..count {
-            out.push(unit)?;
-        }
-    } else {
-        let gone = &doc[at..];
-        let gone = &gone[..count.min(gone.len())];
-        write_ascii("<", &mut out)?;
-        write36(gone.len() as u64, &mut out)?;
-        write_stretch(None, b'=', &doc[..at], &mut out)?;
-        write_stretch(None, b'-', gone, &mut out)?;
-        write_ascii("$", &mut out)?;
+        return write_insertion(kept, count, unit, out);
     }
+    let gone = &doc[at..];
+    write_removal(kept, &gone[..count.min(gone.len())], out)
+}
+
+/// The changeset text of a small edit of a document: at a random place one to three equal letters are inserted with
+/// the first attribute of the pool, or one to three units are dropped.
+pub fn edit(alloc: Global, doc: &[u16], draws: &mut Draws) -> Result<Units, NoMemory> {
+    let mut out = Units::new(alloc);
+    write_edit(doc, draws, &mut out)?;
     Ok(out)
 }

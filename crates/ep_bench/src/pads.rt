@@ -36,11 +36,20 @@ const ROW: u64 = 15;
 const SMALL: u32 = 1_000;
 
 /// A session that types letters all over a pad.
-#[derive(Drop)]
 struct Typist {
     pad: PadMachine<MemDisk>,
     session: Session,
     draws: Draws,
+}
+
+impl Drop for Typist {
+    fn drop(self) {
+        let Typist {
+            pad: _,
+            session: _,
+            draws: _,
+        } = self;
+    }
 }
 
 fn opened<D: Disk + Drop>(alloc: Global, disk: D) -> Result<PadMachine<D>> {
@@ -95,27 +104,44 @@ fn grant(alloc: Global) -> Result<Grant> {
     })
 }
 
+fn empty_pad(alloc: Global) -> Result<PadMachine<MemDisk>> {
+    let room = Vec::with_capacity(alloc, 4_000_000)?;
+    let disk = MemDisk::new(alloc, room, Vec::new(alloc))?;
+    opened(alloc, disk)
+}
+
+/// A pad of so many units.
+fn created(alloc: Global, units: u32, draws: &mut Draws) -> Result<PadMachine<MemDisk>> {
+    let text = document(alloc, units as usize, draws)?;
+    if !text.well_formed() {
+        return Err(anyhow!("the text is none"));
+    }
+    let mut pad = empty_pad(alloc)?;
+    create(&mut pad, &text)?;
+    Ok(pad)
+}
+
 impl Typist {
     /// A pad of so many units, and a session of it.
     fn new(alloc: Global, units: u32) -> Result<Typist> {
         let mut draws = Draws::new(7);
-        let text = document(alloc, units as usize, &mut draws)?;
-        if !text.well_formed() {
-            return Err(anyhow!("the text is none"));
-        }
-        let disk = MemDisk::new(
-            alloc,
-            Vec::with_capacity(alloc, 4_000_000)?,
-            Vec::new(alloc),
-        )?;
-        let mut pad = opened(alloc, disk)?;
-        create(&mut pad, &text)?;
-        let session = login(&mut pad, &grant(alloc)?)?;
+        let mut pad = created(alloc, units, &mut draws)?;
+        let grant = grant(alloc)?;
+        let session = login(&mut pad, &grant)?;
         Ok(Typist {
             pad,
             session,
             draws,
         })
+    }
+
+    fn into_disk(self) -> MemDisk {
+        let Typist {
+            pad,
+            session: _,
+            draws: _,
+        } = self;
+        pad.into_disk()
     }
 
     /// Types one letter into the revision that is so many behind the head, and answers the time of the call alone.
@@ -174,19 +200,28 @@ impl Typist {
     }
 }
 
-/// Edits that are taken so many revisions behind the head; at the head they are taken in rows.
-fn taken(rt: &HostRuntime, units: u32, behind: u64, edits: u64) -> Result<()> {
-    let mut typist = Typist::new(rt.alloc(), units)?;
+/// How long it takes to take edits so many revisions behind the head, and the head then; at the head they are taken in rows.
+fn taken_by(
+    rt: &HostRuntime,
+    typist: &mut Typist,
+    behind: u64,
+    edits: u64,
+) -> Result<(Duration, u64)> {
     typist.types_all(rt, 0, behind)?;
     let spent = if behind == 0 {
         typist.types_rows(rt, edits)?
     } else {
         typist.types_all(rt, behind, edits)?
     };
-    let spent = spent.as_nanos();
-    let head = head(&mut typist.pad)?;
+    Ok((spent, head(&mut typist.pad)?))
+}
+
+/// Edits that are taken so many revisions behind the head.
+fn taken(rt: &HostRuntime, units: u32, behind: u64, edits: u64) -> Result<()> {
+    let mut typist = Typist::new(rt.alloc(), units)?;
+    let (spent, head) = taken_by(rt, &mut typist, behind, edits)?;
     println!(rt; "{edits} edits taken {behind} revisions behind the head, which is {head} then")?;
-    eprintln!(rt; "{spent} ns")?;
+    eprintln!(rt; "{} ns", spent.as_nanos())?;
     Ok(())
 }
 
@@ -202,7 +237,7 @@ fn open_in_time<D: Disk + Drop>(rt: &HostRuntime, disk: D) -> Result<(u64, Durat
 fn reopened(rt: &HostRuntime, revisions: u64) -> Result<()> {
     let mut typist = Typist::new(rt.alloc(), SMALL)?;
     typist.types_all(rt, 0, revisions)?;
-    let (head, spent) = open_in_time(rt, typist.pad.into_disk())?;
+    let (head, spent) = open_in_time(rt, typist.into_disk())?;
     println!(rt; "opened at revision {head}")?;
     eprintln!(rt; "{} ns", spent.as_nanos())?;
     Ok(())
