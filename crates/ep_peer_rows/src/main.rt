@@ -30,8 +30,8 @@ fn one<R: Threads + Wait + Sync>(rt: &R, alloc: Global, line: &str) -> Result<St
     Ok(wrote(alloc, &told)?)
 }
 
-/// What came of so many lines.
-fn told(
+/// What came of so many lines, in a row.
+fn row(
     alloc: Global,
     count: u64,
     lines: &Lines,
@@ -54,7 +54,7 @@ fn many<R: Threads + Wait + Sync>(rt: &R, alloc: Global, seed: u64, count: u64) 
     let Both { wrote, served } = talk(rt, alloc, &lines.script)?;
     let served = served?.context("the pad is not to be read")?;
     let wrote = wrote?;
-    Ok(told(alloc, count, &lines, &wrote, &served)?)
+    Ok(row(alloc, count, &lines, &wrote, &served)?)
 }
 
 fn replied<R: Threads + Wait + Sync>(rt: &R, alloc: Global, line: &str) -> Result<String> {
