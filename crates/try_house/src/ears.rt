@@ -55,18 +55,20 @@ impl Ear for Marked {
 }
 
 /// Somebody with an ear, whose marks are read.
-struct Visitor {
-    port: Ringing<MemHouse, Marked>,
+///
+/// Of the pads only their port is known here: the check of a call by a ringing port of one known house meets its limit.
+struct Visitor<P: Drop> {
+    port: Ringing<P, Marked>,
     marks: Arc<Marks>,
 }
 
-impl Drop for Visitor {
+impl<P: Drop> Drop for Visitor<P> {
     fn drop(self) {
         let Visitor { port: _, marks: _ } = self;
     }
 }
 
-impl Visitor {
+impl<P: Drop> Visitor<P> {
     fn has_ear(&self) -> bool {
         self.marks.is_there.load(Ordering::SeqCst)
     }
@@ -77,14 +79,14 @@ impl Visitor {
 }
 
 /// What all visitors share.
-struct Desk {
-    house: Arc<MemHouse>,
+struct Desk<P: Drop> {
+    pads: Arc<P>,
     bells: Arc<Bells<Marked>>,
 }
 
-impl Drop for Desk {
+impl<P: Drop> Drop for Desk<P> {
     fn drop(self) {
-        let Desk { house: _, bells: _ } = self;
+        let Desk { pads: _, bells: _ } = self;
     }
 }
 
@@ -97,20 +99,20 @@ fn shared_bells(alloc: Global) -> Result<Arc<Bells<Marked>>, NoMemory> {
     Ok(Arc::new(alloc, Bells::new(alloc))?)
 }
 
-impl Desk {
-    fn new(alloc: Global) -> Result<Desk, Fail> {
-        let house = shared_house(alloc)?;
-        let bells = shared_bells(alloc)?;
-        Ok(Desk { house, bells })
-    }
+fn mem_desk(alloc: Global) -> Result<Desk<MemHouse>, Fail> {
+    let pads = shared_house(alloc)?;
+    let bells = shared_bells(alloc)?;
+    Ok(Desk { pads, bells })
+}
 
-    fn port(&self, ear: Marked) -> Result<Ringing<MemHouse, Marked>, NoMemory> {
-        let house = Arc::try_clone(&self.house)?;
+impl<P: Drop> Desk<P> {
+    fn port(&self, ear: Marked) -> Result<Ringing<P, Marked>, NoMemory> {
+        let pads = Arc::try_clone(&self.pads)?;
         let bells = Arc::try_clone(&self.bells)?;
-        Ok(Ringing::new(house, bells, Some(ear)))
+        Ok(Ringing::new(pads, bells, Some(ear)))
     }
 
-    fn visitor(&self, alloc: Global) -> Result<Visitor, NoMemory> {
+    fn visitor(&self, alloc: Global) -> Result<Visitor<P>, NoMemory> {
         let marks = Arc::new(alloc, Marks::new())?;
         let shared = Arc::try_clone(&marks)?;
         let port = self.port(Marked { marks: shared })?;
@@ -163,7 +165,11 @@ fn visits<R: Wait, P: PadPort>(
 }
 
 /// Whether a visitor's ear waits while it is there, and is gone once it has ended.
-fn goes<R: Wait>(rt: &R, alloc: Global, desk: &Desk) -> Result<bool, NoMemory> {
+fn goes<R: Wait, P: PadPort + Drop>(
+    rt: &R,
+    alloc: Global,
+    desk: &Desk<P>,
+) -> Result<bool, NoMemory> {
     let visitor = desk.visitor(alloc)?;
     let is_in = visits(rt, alloc, &visitor.port, None)?;
     let waits = desk.waiting(rt) == 1 && visitor.has_ear();
@@ -173,7 +179,7 @@ fn goes<R: Wait>(rt: &R, alloc: Global, desk: &Desk) -> Result<bool, NoMemory> {
 
 #[test]
 fn an_ear_goes_with_its_session(rt: HostRuntime) -> Result<(), Fail> {
-    let desk = Desk::new(rt.alloc())?;
+    let desk = mem_desk(rt.alloc())?;
     for visit in 0..3u8 {
         assert!(&rt; goes(&rt, rt.alloc(), &desk)?, "at visit {visit}");
     }
@@ -181,7 +187,11 @@ fn an_ear_goes_with_its_session(rt: HostRuntime) -> Result<(), Fail> {
 }
 
 /// Who is woken where the second of two visitors sets the text: the first, and the second.
-fn woken<R: Wait>(rt: &R, alloc: Global, desk: &Desk) -> Result<(bool, bool), NoMemory> {
+fn woken<R: Wait, P: PadPort + Drop>(
+    rt: &R,
+    alloc: Global,
+    desk: &Desk<P>,
+) -> Result<(bool, bool), NoMemory> {
     let reader = desk.visitor(alloc)?;
     let writer = desk.visitor(alloc)?;
     let both = visits(rt, alloc, &reader.port, None)?
@@ -191,7 +201,7 @@ fn woken<R: Wait>(rt: &R, alloc: Global, desk: &Desk) -> Result<(bool, bool), No
 
 #[test]
 fn a_commit_wakes_the_others(rt: HostRuntime) -> Result<(), Fail> {
-    let desk = Desk::new(rt.alloc())?;
+    let desk = mem_desk(rt.alloc())?;
     assert_eq!(&rt; woken(&rt, rt.alloc(), &desk)?, (true, false));
     Ok(())
 }
