@@ -63,6 +63,10 @@ usage = codes "usage: padd play [NAME] | serve PADS API DIR KEY | write ADDR PAD
 abbrev pub IsEnd : ℕ → Type 0
 IsEnd code = (code ≡ 0) ⊎ (code ≡ 3)
 
+-- the statuses of a shelf whose files were judged
+abbrev pub IsVerdict : ℕ → Type 0
+IsVerdict code = (code ≡ 0) ⊎ (code ≡ 1)
+
 -- a transcript of the script was written that has this status; of a source that doesn't tell, some script's
 abbrev pub Writes : Text → Option (List ℕ) → Option (List ℕ) → Option (List ℕ) → ℕ → Type 0
 Writes id (Some script) held now code = (out : List ℕ) × IsTranscript id script out code × Takes held now out

@@ -1,13 +1,13 @@
 //! The top call: all that the program does, over any devices.
 
-ghost use Rattle.std.specs.Prelude.{◌≡◌, ◌⊎◌, ℕ, List, map, true, Contains};
+ghost use Rattle.std.specs.Prelude.{◌≡◌, ◌≢◌, ◌⊎◌, ℕ, List, map, true, Contains};
 ghost use Rattle.std.specs.String.{string_bytes};
 ghost use Rattle.ep_outside.specs.Outside.{HasRisen, IsAtEnd, Takes, TakesPart};
 ghost use Rattle.ep_units.specs.Text.{Text};
 ghost use Rattle.ep_words.specs.Lines.{line_in};
 ghost use Rattle.ep_run.specs.Judged.{FailsBy, Judges};
 ghost use Rattle.ep_run.specs.Making.{MakesLines};
-ghost use Rattle.ep_run.specs.Run.{IsEnd, IsMake, IsPlay, IsServe, IsUsage, IsVerify, IsWrite, ReadsLines, Writes, WritesPart, statuses, usage};
+ghost use Rattle.ep_run.specs.Run.{IsEnd, IsMake, IsPlay, IsServe, IsUsage, IsVerdict, IsVerify, IsWrite, ReadsLines, Writes, WritesPart, statuses, usage};
 ghost use Rattle.ep_run.specs.Serving.{Serves};
 ghost use Rattle.ep_run.specs.Writing.{WritesPad};
 
@@ -87,10 +87,17 @@ where
     ensures shelf_fault { result.code ≡ 6 → HasRisen (H.failures shelf.old) (H.failures shelf.new)
         ⊎ FailsBy H.D.told H.D.failures (H.told shelf.old) }
 
-    // Where no device fails, the words are told wrong, or the script is played as far as it goes, unless memory runs out.
+    // A device that never fails ends nothing. Where none fails, the words are told wrong, the script is played as far as it
+    // goes, the files are judged, or the schedule is made, unless memory runs out.
+    ensures sink_sure { K.is_steady sink.old ≡ true → result.code ≢ 5 }
+    ensures shelf_sure { H.is_steady shelf.old ≡ true → result.code ≢ 6 }
     ensures usage_complete { K.is_steady sink.old ≡ true → IsUsage (map string_bytes words.now) → (result.code ≡ 2) ⊎ (result.code ≡ 7) }
     ensures complete { S.is_steady source.old ≡ true → K.is_steady sink.old ≡ true → (id : Text) → IsPlay (map string_bytes words.now) id
         → IsEnd result.code ⊎ (result.code ≡ 7) }
+    ensures judge_complete { H.is_steady shelf.old ≡ true → K.is_steady sink.old ≡ true → IsVerify (map string_bytes words.now)
+        → IsVerdict result.code ⊎ (result.code ≡ 7) }
+    ensures make_complete { K.is_steady sink.old ≡ true → (number clients edits : ℕ) → IsMake (map string_bytes words.now) number clients edits
+        → (result.code ≡ 0) ⊎ (result.code ≡ 7) }
 {
     match read_words(alloc, words) {
         Ok(Command::Play { pad }) => play(alloc, source, sink, pad).status,
