@@ -50,19 +50,29 @@ fn number(rt: &HostRuntime) -> Result<u64, Fail> {
     Ok(fs::metadata(rt, FILE)?.ino())
 }
 
-// A file in doubt is another after the first sync, with the same bytes, and stays that one.
-fn is_mended(rt: &HostRuntime, length: u64) -> Result<bool, Fail> {
+// A pad's file of these bytes, which a server left in doubt.
+fn leave_in_doubt(rt: &HostRuntime, bytes: &[u8]) -> Result<(), Fail> {
     fresh_folder(rt, FOLDER)?;
-    let bytes = bytes_of(rt.alloc(), length)?;
-    fs::write(rt, FILE, bytes.as_slice())?;
-    fs::write(rt, MENDING, "a part of it")?;
-    let mut disk = open(rt)?;
+    fs::write(rt, FILE, bytes)?;
+    Ok(fs::write(rt, MENDING, "a part of it")?)
+}
+
+// The first sync puts another file in its place, and the second one none.
+fn is_another_once(rt: &HostRuntime, disk: &mut HostDisk) -> Result<bool, Fail> {
     let old = number(rt)?;
-    sync(&mut disk)?;
+    sync(disk)?;
     let new = number(rt)?;
-    sync(&mut disk)?;
-    let is_once = old != new && number(rt)? == new;
-    Ok(is_once && stands(rt, bytes.as_slice())? && disk.length()? == length && disk.faults() == 0)
+    sync(disk)?;
+    Ok(old != new && number(rt)? == new && disk.faults() == 0)
+}
+
+// It is written anew once, with the same bytes.
+fn is_mended(rt: &HostRuntime, length: u64) -> Result<bool, Fail> {
+    let bytes = bytes_of(rt.alloc(), length)?;
+    leave_in_doubt(rt, bytes.as_slice())?;
+    let mut disk = open(rt)?;
+    let is_mended = is_another_once(rt, &mut disk)? && disk.length()? == length;
+    Ok(is_mended && stands(rt, bytes.as_slice())?)
 }
 
 #[test]
