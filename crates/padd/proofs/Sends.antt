@@ -18,8 +18,8 @@ use Rattle.ep_edge.specs.contracts.sys_clock.SysClock as sys_clock
 use Rattle.ep_edge.specs.contracts.sys_draws.SysDraws as sys_draws
 use Rattle.ep_doors.specs.contracts.thread_spawner.ThreadSpawner as spawner
 use Rattle.ep_net.specs.contracts.api_stream.ApiStream as api_stream
-use Rattle.ep_net.specs.contracts.watch.WakeEar as wake_ear
-use Rattle.ep_net.specs.contracts.ws_link.WsLink as ws_link
+use Rattle.ep_ws.specs.contracts.watch.WakeEar as wake_ear
+use Rattle.ep_ws.specs.contracts.ws_link.WsLink as ws_link
 use Rattle.ep_keep_far.specs.contracts.far_keeper.FarKeeper as far_keeper
 
 pub shelf_sends : IsSend real_shelf.the_row
