@@ -1,10 +1,11 @@
 -- Visits of pads.
-use Rattle.std.proofs.Common.{◌≡◌, List, [], ◌∷◌, ◌++◌, All, map, refl, sym, ap, ◌∙◌, subst, inl, inr, Option, Result, Ok, Err}
+use Rattle.std.proofs.Common.{◌≡◌, ℕ, List, [], ◌∷◌, ◌++◌, All, map, refl, sym, ap, ◌∙◌, subst, inl, inr, Option, Result, Ok, Err}
 use Rattle.std.proofs.lemmas.List.{append-nil, map-append}
 use Rattle.std.proofs.lemmas.List.Elements.{All-push}
 use Rattle.atomic_table.specs.Seated.{TableId}
 use Rattle.ep_units.specs.Text.{Text}
 use Rattle.ep_outside.specs.Disk.{Contents}
+use Rattle.ep_outside.specs.declared.limits.Limits.{Limits}
 use Rattle.ep_cell.specs.History.{pairs}
 use Rattle.ep_cell.specs.Passes.{Known}
 use Rattle.ep_history.specs.declared.pad_bad.PadBad.{PadBad}
@@ -14,7 +15,8 @@ use Rattle.ep_pad.specs.declared.entries.PadReply.{PadReply}
 use Rattle.ep_pad.specs.declared.pass_bad.PassBad.TheVariants as pass
 use Rattle.ep_pad.specs.Asking.{AsksOrLacks}
 use Rattle.ep_pad.specs.Halls.{Answer, NotesOrNone}
-use Rattle.ep_pad.specs.Histories.{IsLegalWhere}
+use Rattle.ep_pad.specs.Held.{Held}
+use Rattle.ep_pad.specs.Histories.{IsLegalFrom}
 use Rattle.ep_ask.specs.declared.bad.ApiBad.{ApiBad}
 use Rattle.ep_ask.specs.declared.bad.ApiBad.TheVariants.{NoMemory}
 use Rattle.ep_api.specs.Causes.{of_pass}
@@ -86,12 +88,12 @@ module _ {Pass : Type 0} (known : Pass → Known PadEntry PadReply) (name : Pass
       ∙ ap (λ (x : Stay). stays xs ++ x ∷ []) is))
 
   -- a pass, and its call
-  pub visited : {A D : Type 0} (told : D → Option Contents) (v w : Known Text (Answer PadBad)) (xs mid ys : List Pass) (id : Text) (e : PadEntry) (kind : Result A PadBad → PadReply) (judge : Result A PadBad → Result A ApiBad)
+  pub visited : {A : Type 0} (Legal : List (PadEntry × PadReply) → Type 0) (v w : Known Text (Answer PadBad)) (xs mid ys : List Pass) (id : Text) (e : PadEntry) (kind : Result A PadBad → PadReply) (judge : Result A PadBad → Result A ApiBad)
       (old new : Pass) (x : Result A PadBad) (r : Result A ApiBad)
       → Enters v id (stay_of known name cell old) w → mid ≡ xs → (name new ≡ name old) × (cell new ≡ cell old)
-      → AsksOrLacks told (known old) e kind x (known new) → ys ≡ mid ++ new ∷ [] → r ≡ judge x → judge (Err pad.NoMemory) ≡ Err NoMemory
+      → AsksOrLacks Legal (known old) e kind x (known new) → ys ≡ mid ++ new ∷ [] → r ≡ judge x → judge (Err pad.NoMemory) ≡ Err NoMemory
       → AtHall v (stays xs) (visit id e kind judge) r w (stays ys)
-  visited told v w xs mid ys id e kind judge old new x r enters same pad (inl asks) pushed is lacks = λ desk t. record {
+  visited Legal v w xs mid ys id e kind judge old new x r enters same pad (inl asks) pushed is lacks = λ desk t. record {
     log = Stayed id (cell old) ((e, kind x) ∷ []) ∷ [];
     adds = record {
       desk = sym (append-nil desk);
@@ -102,7 +104,7 @@ module _ {Pass : Type 0} (known : Pass → Known PadEntry PadReply) (name : Pass
     };
     comes = Answers (cell old) x refl is;
   }
-  visited told v w xs mid ys id e kind judge old new x r enters same pad (inr none) pushed is lacks = λ desk t. record {
+  visited Legal v w xs mid ys id e kind judge old new x r enters same pad (inr none) pushed is lacks = λ desk t. record {
     log = Stayed id (cell old) [] ∷ [];
     adds = record {
       desk = sym (append-nil desk);
@@ -115,22 +117,26 @@ module _ {Pass : Type 0} (known : Pass → Known PadEntry PadReply) (name : Pass
   }
 
 -- what a pass has seen stays legal
-legal_after : {A D : Type 0} (told : D → Option Contents) (v w : Known PadEntry PadReply) (e : PadEntry) (kind : Result A PadBad → PadReply) (x : Result A PadBad)
-    → AsksOrLacks told v e kind x w → IsLegalWhere told (pairs v.seen) → IsLegalWhere told (pairs w.seen)
-legal_after told v w e kind x (inl asks) legal = asks.legal
-legal_after told v w e kind x (inr none) legal = let P : Known PadEntry PadReply → Type 0 = λ k. IsLegalWhere told (pairs k.seen) in subst P (sym none.1) legal
+legal_after : {A : Type 0} (Legal : List (PadEntry × PadReply) → Type 0) (v w : Known PadEntry PadReply) (e : PadEntry) (kind : Result A PadBad → PadReply) (x : Result A PadBad)
+    → AsksOrLacks Legal v e kind x w → Legal (pairs v.seen) → Legal (pairs w.seen)
+legal_after Legal v w e kind x (inl asks) legal = asks.legal
+legal_after Legal v w e kind x (inr none) legal = let P : Known PadEntry PadReply → Type 0 = λ k. Legal (pairs k.seen) in subst P (sym none.1) legal
 
-pub stand_same : {D Pass : Type 0} (told : D → Option Contents) (is_of : Pass → Type 0) (known : Pass → Known PadEntry PadReply) (xs ys : List Pass)
-    → All (Stands is_of told known) xs → ys ≡ xs → All (Stands is_of told known) ys
-stand_same {Pass = Pass} told is_of known xs ys all same =
-    let P : List Pass → Type 0 = λ l. All (Stands is_of told known) l in
+pub stand_same : {D Pass : Type 0} (limits : Limits) (told : D → Option Contents) (failures : D → ℕ) (begun : Pass → Held D) (is_of : Pass → Type 0) (known : Pass → Known PadEntry PadReply) (xs ys : List Pass)
+    → All (Stands is_of limits told failures begun known) xs → ys ≡ xs → All (Stands is_of limits told failures begun known) ys
+stand_same {Pass = Pass} limits told failures begun is_of known xs ys all same =
+    let P : List Pass → Type 0 = λ l. All (Stands is_of limits told failures begun known) l in
     subst P (sym same) all
 
 -- the passes that were taken still stand
-pub stand_after : {A D Pass : Type 0} (told : D → Option Contents) (is_of : Pass → Type 0) (known : Pass → Known PadEntry PadReply) (xs mid ys : List Pass) (e : PadEntry) (kind : Result A PadBad → PadReply) (old new : Pass) (x : Result A PadBad)
-    → All (Stands is_of told known) xs → mid ≡ xs → Stands is_of told known old → is_of new → AsksOrLacks told (known old) e kind x (known new) → ys ≡ mid ++ new ∷ []
-    → All (Stands is_of told known) ys
-stand_after {Pass = Pass} told is_of known xs mid ys e kind old new x all same stands of asks pushed =
-    let P : List Pass → Type 0 = λ l. All (Stands is_of told known) l in
-    subst P (sym pushed) (All-push (Stands is_of told known) mid new (subst P (sym same) all)
-    (record { of = of; legal = legal_after told (known old) (known new) e kind x asks stands.legal }))
+pub stand_after : {A D Pass : Type 0} (limits : Limits) (told : D → Option Contents) (failures : D → ℕ) (begun : Pass → Held D) (is_of : Pass → Type 0) (known : Pass → Known PadEntry PadReply) (xs mid ys : List Pass) (e : PadEntry) (kind : Result A PadBad → PadReply) (old new : Pass) (x : Result A PadBad)
+    → All (Stands is_of limits told failures begun known) xs → mid ≡ xs → Stands is_of limits told failures begun known old → is_of new → begun new ≡ begun old → AsksOrLacks (IsLegalFrom told failures (begun old)) (known old) e kind x (known new) → ys ≡ mid ++ new ∷ []
+    → All (Stands is_of limits told failures begun known) ys
+stand_after {Pass = Pass} limits told failures begun is_of known xs mid ys e kind old new x all same stands of stays asks pushed =
+    let P : List Pass → Type 0 = λ l. All (Stands is_of limits told failures begun known) l in
+    subst P (sym pushed) (All-push (Stands is_of limits told failures begun known) mid new (subst P (sym same) all)
+    (record {
+      of = of;
+      limits = ap (λ b. b.limits) stays ∙ stands.limits;
+      legal = subst (λ b. IsLegalFrom told failures b (pairs (known new).seen)) (sym stays) (legal_after (IsLegalFrom told failures (begun old)) (known old) (known new) e kind x asks stands.legal);
+    }))

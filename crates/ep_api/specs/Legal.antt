@@ -1,9 +1,11 @@
 -- Passes of the ports, whose histories are legal.
-use Rattle.std.specs.Prelude.{Bool, List, Option}
+use Rattle.std.specs.Prelude.{ℕ, ◌≡◌, Bool, List, Option}
 use Rattle.ep_units.specs.Text.{Text}
 use Rattle.ep_outside.specs.Disk.{Contents}
+use Rattle.ep_outside.specs.declared.limits.Limits.{Limits}
 use Rattle.ep_cell.specs.History.{pairs}
 use Rattle.ep_cell.specs.Passes.{Known}
+use Rattle.ep_dir_records.specs.Answers.{Seen}
 use Rattle.ep_groups.specs.declared.entries.DirEntry.{DirEntry}
 use Rattle.ep_groups.specs.declared.entries.DirReply.{DirReply}
 use Rattle.ep_groups.specs.History.{IsLegal}
@@ -11,19 +13,21 @@ use Rattle.ep_history.specs.declared.pad_bad.PadBad.{PadBad}
 use Rattle.ep_pad.specs.declared.entries.PadEntry.{PadEntry}
 use Rattle.ep_pad.specs.declared.entries.PadReply.{PadReply}
 use Rattle.ep_pad.specs.Halls.{Answer}
-use Rattle.ep_pad.specs.Histories.{IsLegalWhere}
+use Rattle.ep_pad.specs.Held.{Held}
+use Rattle.ep_pad.specs.Histories.{IsLegalFrom}
 
 -- a pass of the directory
-pub record Sits {Pass K : Type 0} (is_of : Pass → Type 0) (tells : K → Bool) (known : Pass → Known DirEntry DirReply) (pass : Pass) : Type 0 where
+pub record Sits {Pass K : Type 0} (is_of : Pass → Type 0) (tells : K → Bool) (begun : Seen) (known : Pass → Known DirEntry DirReply) (pass : Pass) : Type 0 where
   pub of : is_of pass
-  pub legal : IsLegal tells (pairs (known pass).seen)
+  pub legal : IsLegal tells begun (pairs (known pass).seen)
 
 -- a hall of the pads
 pub record Waits {Hall : Type 0} (is_hall : Hall → Type 0) (is_register : List (Text × Answer PadBad) → Type 0) (known : Hall → Known Text (Answer PadBad)) (hall : Hall) : Type 0 where
   pub of : is_hall hall
   pub legal : is_register (pairs (known hall).seen)
 
--- a pass of a pad
-pub record Stands {Pass D : Type 0} (is_of : Pass → Type 0) (told : D → Option Contents) (known : Pass → Known PadEntry PadReply) (pass : Pass) : Type 0 where
+-- a pass of a pad, which is held to these limits
+pub record Stands {Pass D : Type 0} (is_of : Pass → Type 0) (limits : Limits) (told : D → Option Contents) (failures : D → ℕ) (begun : Pass → Held D) (known : Pass → Known PadEntry PadReply) (pass : Pass) : Type 0 where
   pub of : is_of pass
-  pub legal : IsLegalWhere told (pairs (known pass).seen)
+  pub limits : (begun pass).limits ≡ limits
+  pub legal : IsLegalFrom told failures (begun pass) (pairs (known pass).seen)

@@ -49,13 +49,13 @@ fn carry_out<R: Wait, P: PadPort, G: DirPort, D: Draws>(
     now: u64,
     call: &Call,
 ) -> Result<Data, ApiBad>
-    requires waits { Waits (P.is_hall pads.now) P.is_register P.hall_known hall.old }
-    requires stand { All (Stands (P.is_of pads.now) P.Store.told P.known) taken.old.items }
-    requires sits { Sits (G.is_of dir.now) G.Store.always_tells G.known desk.old }
+    requires waits { Waits (P.is_hall pads.now) (P.is_register (P.limits_of pads.now)) P.hall_known hall.old }
+    requires stand { All (Stands (P.is_of pads.now) (P.limits_of pads.now) P.Store.told P.Store.failures P.begun P.known) taken.old.items }
+    requires sits { Sits (G.is_of dir.now) G.Store.always_tells (G.begun dir.now) G.known desk.old }
     requires whole { HasWholeText call.now }
-    ensures waits { Waits (P.is_hall pads.now) P.is_register P.hall_known hall.new }
-    ensures stand { All (Stands (P.is_of pads.now) P.Store.told P.known) taken.new.items }
-    ensures sits { Sits (G.is_of dir.now) G.Store.always_tells G.known desk.new }
+    ensures waits { Waits (P.is_hall pads.now) (P.is_register (P.limits_of pads.now)) P.hall_known hall.new }
+    ensures stand { All (Stands (P.is_of pads.now) (P.limits_of pads.now) P.Store.told P.Store.failures P.begun P.known) taken.new.items }
+    ensures sits { Sits (G.is_of dir.now) G.Store.always_tells (G.begun dir.now) G.known desk.new }
     ensures does { Does (seen (own (G.known desk.old)) (own (P.hall_known hall.old)) (map (stay_of P.known P.name_of P.cell_of) taken.old.items) (D.to_come draws.old)) (task_of now call.now) result (seen (own (G.known desk.new)) (own (P.hall_known hall.new)) (map (stay_of P.known P.name_of P.cell_of) taken.new.items) (D.to_come draws.new)) }
 {
     match call {
@@ -128,9 +128,9 @@ pub fn answer<R: Wait, P: PadPort, G: DirPort, D: Draws>(
     now: u64,
 ) -> Result<Answered<P::Hall, G::Pass, P::Pass>, NoMemory>
     ensures serves { IfOk result (λ a. Serves P.hall_known G.known P.known P.name_of P.cell_of path.now pairs.now key.now now (D.to_come draws.old) (D.to_come draws.new) a) }
-    ensures hall { IfOk result (λ a. IfSome a.hall (Waits (P.is_hall pads.now) P.is_register P.hall_known)) }
-    ensures desk { IfOk result (λ a. IfSome a.desk (Sits (G.is_of dir.now) G.Store.always_tells G.known)) }
-    ensures pads { IfOk result (λ a. All (Stands (P.is_of pads.now) P.Store.told P.known) a.pads.items) }
+    ensures hall { IfOk result (λ a. IfSome a.hall (Waits (P.is_hall pads.now) (P.is_register (P.limits_of pads.now)) P.hall_known)) }
+    ensures desk { IfOk result (λ a. IfSome a.desk (Sits (G.is_of dir.now) G.Store.always_tells (G.begun dir.now) G.known)) }
+    ensures pads { IfOk result (λ a. All (Stands (P.is_of pads.now) (P.limits_of pads.now) P.Store.told P.Store.failures P.begun P.known) a.pads.items) }
 {
     let call = match read_call(alloc, path, pairs, key) {
         Ok(call) => call,

@@ -28,8 +28,8 @@ fn pads_of<R: Wait, G: DirPort>(
     desk: &mut G::Pass,
     group: &Units,
 ) -> Result<Listed<PadId>, ApiBad>
-    requires sits { Sits (G.is_of dir.now) G.Store.always_tells G.known desk.old }
-    ensures sits { Sits (G.is_of dir.now) G.Store.always_tells G.known desk.new }
+    requires sits { Sits (G.is_of dir.now) G.Store.always_tells (G.begun dir.now) G.known desk.old }
+    ensures sits { Sits (G.is_of dir.now) G.Store.always_tells (G.begun dir.now) G.known desk.new }
     ensures does { (t : Option (List ℕ)) → AtDesk (G.known desk.old) t (ask (entry.GroupPads group.now) reply.Pads) result (G.known desk.new) t }
 {
     match dir.group_pads(rt, desk, group) {
@@ -46,8 +46,8 @@ fn add_pad<R: Wait, G: DirPort>(
     group: &Units,
     name: &Units,
 ) -> Result<PadId, ApiBad>
-    requires sits { Sits (G.is_of dir.now) G.Store.always_tells G.known desk.old }
-    ensures sits { Sits (G.is_of dir.now) G.Store.always_tells G.known desk.new }
+    requires sits { Sits (G.is_of dir.now) G.Store.always_tells (G.begun dir.now) G.known desk.old }
+    ensures sits { Sits (G.is_of dir.now) G.Store.always_tells (G.begun dir.now) G.known desk.new }
     ensures does { (t : Option (List ℕ)) → AtDesk (G.known desk.old) t (ask (entry.AddGroupPad group.now name.now) reply.Pad) result (G.known desk.new) t }
 {
     match dir.add_group_pad(rt, desk, group, name) {
@@ -63,8 +63,8 @@ fn drop_group<R: Wait, G: DirPort>(
     desk: &mut G::Pass,
     group: &Units,
 ) -> Result<Data, ApiBad>
-    requires sits { Sits (G.is_of dir.now) G.Store.always_tells G.known desk.old }
-    ensures sits { Sits (G.is_of dir.now) G.Store.always_tells G.known desk.new }
+    requires sits { Sits (G.is_of dir.now) G.Store.always_tells (G.begun dir.now) G.known desk.old }
+    ensures sits { Sits (G.is_of dir.now) G.Store.always_tells (G.begun dir.now) G.known desk.new }
     ensures does { (t : Option (List ℕ)) → AtDesk (G.known desk.old) t (drop_group group.now) result (G.known desk.new) t }
 {
     match dir.delete_group(rt, desk, group) {
@@ -86,8 +86,8 @@ fn take_off<R: Wait, G: DirPort>(
     desk: &mut G::Pass,
     id: &PadId,
 ) -> Result<Data, ApiBad>
-    requires sits { Sits (G.is_of dir.now) G.Store.always_tells G.known desk.old }
-    ensures sits { Sits (G.is_of dir.now) G.Store.always_tells G.known desk.new }
+    requires sits { Sits (G.is_of dir.now) G.Store.always_tells (G.begun dir.now) G.known desk.old }
+    ensures sits { Sits (G.is_of dir.now) G.Store.always_tells (G.begun dir.now) G.known desk.new }
     ensures does { (t : Option (List ℕ)) → AtDesk (G.known desk.old) t (take_off id.now) result (G.known desk.new) t }
 {
     match dir.drop_group_pad(rt, desk, id) {
@@ -103,8 +103,8 @@ fn off_list<R: Wait, G: DirPort>(
     desk: &mut G::Pass,
     id: &PadId,
 ) -> Result<Data, ApiBad>
-    requires sits { Sits (G.is_of dir.now) G.Store.always_tells G.known desk.old }
-    ensures sits { Sits (G.is_of dir.now) G.Store.always_tells G.known desk.new }
+    requires sits { Sits (G.is_of dir.now) G.Store.always_tells (G.begun dir.now) G.known desk.old }
+    ensures sits { Sits (G.is_of dir.now) G.Store.always_tells (G.begun dir.now) G.known desk.new }
     ensures does { (t : Option (List ℕ)) → AtDesk (G.known desk.old) t (off_list id.now) result (G.known desk.new) t }
 {
     if has_group(id) {
@@ -123,10 +123,10 @@ fn delete_each<R: Wait, P: PadPort>(
     ids: &[PadId],
     now: u64,
 ) -> Result<(), ApiBad>
-    requires waits { Waits (P.is_hall pads.now) P.is_register P.hall_known hall.old }
-    requires stand { All (Stands (P.is_of pads.now) P.Store.told P.known) taken.old.items }
-    ensures waits { Waits (P.is_hall pads.now) P.is_register P.hall_known hall.new }
-    ensures stand { All (Stands (P.is_of pads.now) P.Store.told P.known) taken.new.items }
+    requires waits { Waits (P.is_hall pads.now) (P.is_register (P.limits_of pads.now)) P.hall_known hall.old }
+    requires stand { All (Stands (P.is_of pads.now) (P.limits_of pads.now) P.Store.told P.Store.failures P.begun P.known) taken.old.items }
+    ensures waits { Waits (P.is_hall pads.now) (P.is_register (P.limits_of pads.now)) P.hall_known hall.new }
+    ensures stand { All (Stands (P.is_of pads.now) (P.limits_of pads.now) P.Store.told P.Store.failures P.begun P.known) taken.new.items }
     ensures visits { AtHall (P.hall_known hall.old) (map (stay_of P.known P.name_of P.cell_of) taken.old.items) (delete_all now ids.now) result (P.hall_known hall.new) (map (stay_of P.known P.name_of P.cell_of) taken.new.items) }
 {
     for id in ids {
@@ -146,12 +146,12 @@ pub fn delete_group<R: Wait, P: PadPort, G: DirPort>(
     group: &Units,
     now: u64,
 ) -> Result<Data, ApiBad>
-    requires waits { Waits (P.is_hall pads.now) P.is_register P.hall_known hall.old }
-    requires stand { All (Stands (P.is_of pads.now) P.Store.told P.known) taken.old.items }
-    requires sits { Sits (G.is_of dir.now) G.Store.always_tells G.known desk.old }
-    ensures waits { Waits (P.is_hall pads.now) P.is_register P.hall_known hall.new }
-    ensures stand { All (Stands (P.is_of pads.now) P.Store.told P.known) taken.new.items }
-    ensures sits { Sits (G.is_of dir.now) G.Store.always_tells G.known desk.new }
+    requires waits { Waits (P.is_hall pads.now) (P.is_register (P.limits_of pads.now)) P.hall_known hall.old }
+    requires stand { All (Stands (P.is_of pads.now) (P.limits_of pads.now) P.Store.told P.Store.failures P.begun P.known) taken.old.items }
+    requires sits { Sits (G.is_of dir.now) G.Store.always_tells (G.begun dir.now) G.known desk.old }
+    ensures waits { Waits (P.is_hall pads.now) (P.is_register (P.limits_of pads.now)) P.hall_known hall.new }
+    ensures stand { All (Stands (P.is_of pads.now) (P.limits_of pads.now) P.Store.told P.Store.failures P.begun P.known) taken.new.items }
+    ensures sits { Sits (G.is_of dir.now) G.Store.always_tells (G.begun dir.now) G.known desk.new }
     ensures does { (t : Option (List ℕ)) → Does (seen (own (G.known desk.old)) (own (P.hall_known hall.old)) (map (stay_of P.known P.name_of P.cell_of) taken.old.items) t) (task_of now (call.DeleteGroup group.now)) result (seen (own (G.known desk.new)) (own (P.hall_known hall.new)) (map (stay_of P.known P.name_of P.cell_of) taken.new.items) t) }
 {
     let ids = pads_of(rt, dir, desk, group)?;
@@ -172,13 +172,13 @@ pub fn create_group_pad<R: Wait, P: PadPort, G: DirPort>(
     text: &Units,
     now: u64,
 ) -> Result<Data, ApiBad>
-    requires waits { Waits (P.is_hall pads.now) P.is_register P.hall_known hall.old }
-    requires stand { All (Stands (P.is_of pads.now) P.Store.told P.known) taken.old.items }
-    requires sits { Sits (G.is_of dir.now) G.Store.always_tells G.known desk.old }
+    requires waits { Waits (P.is_hall pads.now) (P.is_register (P.limits_of pads.now)) P.hall_known hall.old }
+    requires stand { All (Stands (P.is_of pads.now) (P.limits_of pads.now) P.Store.told P.Store.failures P.begun P.known) taken.old.items }
+    requires sits { Sits (G.is_of dir.now) G.Store.always_tells (G.begun dir.now) G.known desk.old }
     requires text { is_well_formed text.now ≡ true }
-    ensures waits { Waits (P.is_hall pads.now) P.is_register P.hall_known hall.new }
-    ensures stand { All (Stands (P.is_of pads.now) P.Store.told P.known) taken.new.items }
-    ensures sits { Sits (G.is_of dir.now) G.Store.always_tells G.known desk.new }
+    ensures waits { Waits (P.is_hall pads.now) (P.is_register (P.limits_of pads.now)) P.hall_known hall.new }
+    ensures stand { All (Stands (P.is_of pads.now) (P.limits_of pads.now) P.Store.told P.Store.failures P.begun P.known) taken.new.items }
+    ensures sits { Sits (G.is_of dir.now) G.Store.always_tells (G.begun dir.now) G.known desk.new }
     ensures does { (t : Option (List ℕ)) → Does (seen (own (G.known desk.old)) (own (P.hall_known hall.old)) (map (stay_of P.known P.name_of P.cell_of) taken.old.items) t) (task_of now (call.CreateGroupPad group.now name.now text.now)) result (seen (own (G.known desk.new)) (own (P.hall_known hall.new)) (map (stay_of P.known P.name_of P.cell_of) taken.new.items) t) }
 {
     let id = add_pad(rt, dir, desk, group, name)?;
@@ -197,12 +197,12 @@ pub fn delete_pad<R: Wait, P: PadPort, G: DirPort>(
     id: &PadId,
     now: u64,
 ) -> Result<Data, ApiBad>
-    requires waits { Waits (P.is_hall pads.now) P.is_register P.hall_known hall.old }
-    requires stand { All (Stands (P.is_of pads.now) P.Store.told P.known) taken.old.items }
-    requires sits { Sits (G.is_of dir.now) G.Store.always_tells G.known desk.old }
-    ensures waits { Waits (P.is_hall pads.now) P.is_register P.hall_known hall.new }
-    ensures stand { All (Stands (P.is_of pads.now) P.Store.told P.known) taken.new.items }
-    ensures sits { Sits (G.is_of dir.now) G.Store.always_tells G.known desk.new }
+    requires waits { Waits (P.is_hall pads.now) (P.is_register (P.limits_of pads.now)) P.hall_known hall.old }
+    requires stand { All (Stands (P.is_of pads.now) (P.limits_of pads.now) P.Store.told P.Store.failures P.begun P.known) taken.old.items }
+    requires sits { Sits (G.is_of dir.now) G.Store.always_tells (G.begun dir.now) G.known desk.old }
+    ensures waits { Waits (P.is_hall pads.now) (P.is_register (P.limits_of pads.now)) P.hall_known hall.new }
+    ensures stand { All (Stands (P.is_of pads.now) (P.limits_of pads.now) P.Store.told P.Store.failures P.begun P.known) taken.new.items }
+    ensures sits { Sits (G.is_of dir.now) G.Store.always_tells (G.begun dir.now) G.known desk.new }
     ensures does { (t : Option (List ℕ)) → Does (seen (own (G.known desk.old)) (own (P.hall_known hall.old)) (map (stay_of P.known P.name_of P.cell_of) taken.old.items) t) (task_of now (call.DeletePad id.now)) result (seen (own (G.known desk.new)) (own (P.hall_known hall.new)) (map (stay_of P.known P.name_of P.cell_of) taken.new.items) t) }
 {
     delete(rt, pads, hall, taken, id, now)?;
@@ -220,12 +220,12 @@ pub fn read_only_id<R: Wait, P: PadPort, G: DirPort, D: Draws>(
     id: &PadId,
     draws: &mut D,
 ) -> Result<Data, ApiBad>
-    requires waits { Waits (P.is_hall pads.now) P.is_register P.hall_known hall.old }
-    requires stand { All (Stands (P.is_of pads.now) P.Store.told P.known) taken.old.items }
-    requires sits { Sits (G.is_of dir.now) G.Store.always_tells G.known desk.old }
-    ensures waits { Waits (P.is_hall pads.now) P.is_register P.hall_known hall.new }
-    ensures stand { All (Stands (P.is_of pads.now) P.Store.told P.known) taken.new.items }
-    ensures sits { Sits (G.is_of dir.now) G.Store.always_tells G.known desk.new }
+    requires waits { Waits (P.is_hall pads.now) (P.is_register (P.limits_of pads.now)) P.hall_known hall.old }
+    requires stand { All (Stands (P.is_of pads.now) (P.limits_of pads.now) P.Store.told P.Store.failures P.begun P.known) taken.old.items }
+    requires sits { Sits (G.is_of dir.now) G.Store.always_tells (G.begun dir.now) G.known desk.old }
+    ensures waits { Waits (P.is_hall pads.now) (P.is_register (P.limits_of pads.now)) P.hall_known hall.new }
+    ensures stand { All (Stands (P.is_of pads.now) (P.limits_of pads.now) P.Store.told P.Store.failures P.begun P.known) taken.new.items }
+    ensures sits { Sits (G.is_of dir.now) G.Store.always_tells (G.begun dir.now) G.known desk.new }
     ensures does { Does (seen (own (G.known desk.old)) (own (P.hall_known hall.old)) (map (stay_of P.known P.name_of P.cell_of) taken.old.items) (D.to_come draws.old)) (task_of 0 (call.GetReadOnlyId id.now)) result (seen (own (G.known desk.new)) (own (P.hall_known hall.new)) (map (stay_of P.known P.name_of P.cell_of) taken.new.items) (D.to_come draws.new)) }
 {
     let _status = status(rt, pads, hall, taken, id)?;

@@ -21,8 +21,8 @@ pub fn create_group<R: Wait, G: DirPort, D: Draws>(
     desk: &mut G::Pass,
     draws: &mut D,
 ) -> Result<Data, ApiBad>
-    requires sits { Sits (G.is_of dir.now) G.Store.always_tells G.known desk.old }
-    ensures sits { Sits (G.is_of dir.now) G.Store.always_tells G.known desk.new }
+    requires sits { Sits (G.is_of dir.now) G.Store.always_tells (G.begun dir.now) G.known desk.old }
+    ensures sits { Sits (G.is_of dir.now) G.Store.always_tells (G.begun dir.now) G.known desk.new }
     ensures does { AtDesk (G.known desk.old) (D.to_come draws.old) (task_of 0 call.CreateGroup) result (G.known desk.new) (D.to_come draws.new) }
 {
     let drawn = draw(draws);
@@ -40,8 +40,8 @@ pub fn group_for<R: Wait, G: DirPort, D: Draws>(
     mapper: &Units,
     draws: &mut D,
 ) -> Result<Data, ApiBad>
-    requires sits { Sits (G.is_of dir.now) G.Store.always_tells G.known desk.old }
-    ensures sits { Sits (G.is_of dir.now) G.Store.always_tells G.known desk.new }
+    requires sits { Sits (G.is_of dir.now) G.Store.always_tells (G.begun dir.now) G.known desk.old }
+    ensures sits { Sits (G.is_of dir.now) G.Store.always_tells (G.begun dir.now) G.known desk.new }
     ensures does { AtDesk (G.known desk.old) (D.to_come draws.old) (task_of 0 (call.CreateGroupIfNotExistsFor mapper.now)) result (G.known desk.new) (D.to_come draws.new) }
 {
     let drawn = draw(draws);
@@ -58,8 +58,8 @@ pub fn list_pads<R: Wait, G: DirPort>(
     desk: &mut G::Pass,
     group: &Units,
 ) -> Result<Data, ApiBad>
-    requires sits { Sits (G.is_of dir.now) G.Store.always_tells G.known desk.old }
-    ensures sits { Sits (G.is_of dir.now) G.Store.always_tells G.known desk.new }
+    requires sits { Sits (G.is_of dir.now) G.Store.always_tells (G.begun dir.now) G.known desk.old }
+    ensures sits { Sits (G.is_of dir.now) G.Store.always_tells (G.begun dir.now) G.known desk.new }
     ensures does { (t : Option (List ℕ)) → AtDesk (G.known desk.old) t (task_of 0 (call.ListPads group.now)) result (G.known desk.new) t }
 {
     match dir.group_pads(rt, desk, group) {
@@ -70,8 +70,8 @@ pub fn list_pads<R: Wait, G: DirPort>(
 
 /// All groups.
 pub fn list_groups<R: Wait, G: DirPort>(rt: &R, dir: &G, desk: &mut G::Pass) -> Result<Data, ApiBad>
-    requires sits { Sits (G.is_of dir.now) G.Store.always_tells G.known desk.old }
-    ensures sits { Sits (G.is_of dir.now) G.Store.always_tells G.known desk.new }
+    requires sits { Sits (G.is_of dir.now) G.Store.always_tells (G.begun dir.now) G.known desk.old }
+    ensures sits { Sits (G.is_of dir.now) G.Store.always_tells (G.begun dir.now) G.known desk.new }
     ensures does { (t : Option (List ℕ)) → AtDesk (G.known desk.old) t (task_of 0 call.ListAllGroups) result (G.known desk.new) t }
 {
     match dir.groups(rt, desk) {
@@ -88,8 +88,8 @@ pub fn create_author<R: Wait, G: DirPort, D: Draws>(
     name: &Units,
     draws: &mut D,
 ) -> Result<Data, ApiBad>
-    requires sits { Sits (G.is_of dir.now) G.Store.always_tells G.known desk.old }
-    ensures sits { Sits (G.is_of dir.now) G.Store.always_tells G.known desk.new }
+    requires sits { Sits (G.is_of dir.now) G.Store.always_tells (G.begun dir.now) G.known desk.old }
+    ensures sits { Sits (G.is_of dir.now) G.Store.always_tells (G.begun dir.now) G.known desk.new }
     ensures does { AtDesk (G.known desk.old) (D.to_come draws.old) (task_of 0 (call.CreateAuthor name.now)) result (G.known desk.new) (D.to_come draws.new) }
 {
     let drawn = draw(draws);
@@ -108,8 +108,8 @@ pub fn author_for<R: Wait, G: DirPort, D: Draws>(
     name: &Option<Units>,
     draws: &mut D,
 ) -> Result<Data, ApiBad>
-    requires sits { Sits (G.is_of dir.now) G.Store.always_tells G.known desk.old }
-    ensures sits { Sits (G.is_of dir.now) G.Store.always_tells G.known desk.new }
+    requires sits { Sits (G.is_of dir.now) G.Store.always_tells (G.begun dir.now) G.known desk.old }
+    ensures sits { Sits (G.is_of dir.now) G.Store.always_tells (G.begun dir.now) G.known desk.new }
     ensures does { AtDesk (G.known desk.old) (D.to_come draws.old) (task_of 0 (call.CreateAuthorIfNotExistsFor mapper.now name.now)) result (G.known desk.new) (D.to_come draws.new) }
 {
     let drawn = draw(draws);
@@ -126,8 +126,8 @@ pub fn author_name<R: Wait, G: DirPort>(
     desk: &mut G::Pass,
     author: &Units,
 ) -> Result<Data, ApiBad>
-    requires sits { Sits (G.is_of dir.now) G.Store.always_tells G.known desk.old }
-    ensures sits { Sits (G.is_of dir.now) G.Store.always_tells G.known desk.new }
+    requires sits { Sits (G.is_of dir.now) G.Store.always_tells (G.begun dir.now) G.known desk.old }
+    ensures sits { Sits (G.is_of dir.now) G.Store.always_tells (G.begun dir.now) G.known desk.new }
     ensures does { (t : Option (List ℕ)) → AtDesk (G.known desk.old) t (task_of 0 (call.GetAuthorName author.now)) result (G.known desk.new) t }
 {
     match dir.author_name(rt, desk, author) {
@@ -147,8 +147,8 @@ pub fn create_session<R: Wait, G: DirPort, D: Draws>(
     now: u64,
     draws: &mut D,
 ) -> Result<Data, ApiBad>
-    requires sits { Sits (G.is_of dir.now) G.Store.always_tells G.known desk.old }
-    ensures sits { Sits (G.is_of dir.now) G.Store.always_tells G.known desk.new }
+    requires sits { Sits (G.is_of dir.now) G.Store.always_tells (G.begun dir.now) G.known desk.old }
+    ensures sits { Sits (G.is_of dir.now) G.Store.always_tells (G.begun dir.now) G.known desk.new }
     ensures does { AtDesk (G.known desk.old) (D.to_come draws.old) (task_of now (call.CreateSession group.now author.now valid_until)) result (G.known desk.new) (D.to_come draws.new) }
 {
     let drawn = draw(draws);
@@ -165,8 +165,8 @@ pub fn delete_session<R: Wait, G: DirPort>(
     desk: &mut G::Pass,
     id: &Units,
 ) -> Result<Data, ApiBad>
-    requires sits { Sits (G.is_of dir.now) G.Store.always_tells G.known desk.old }
-    ensures sits { Sits (G.is_of dir.now) G.Store.always_tells G.known desk.new }
+    requires sits { Sits (G.is_of dir.now) G.Store.always_tells (G.begun dir.now) G.known desk.old }
+    ensures sits { Sits (G.is_of dir.now) G.Store.always_tells (G.begun dir.now) G.known desk.new }
     ensures does { (t : Option (List ℕ)) → AtDesk (G.known desk.old) t (task_of 0 (call.DeleteSession id.now)) result (G.known desk.new) t }
 {
     match dir.delete_session(rt, desk, id) {
@@ -182,8 +182,8 @@ pub fn session_info<R: Wait, G: DirPort>(
     desk: &mut G::Pass,
     id: &Units,
 ) -> Result<Data, ApiBad>
-    requires sits { Sits (G.is_of dir.now) G.Store.always_tells G.known desk.old }
-    ensures sits { Sits (G.is_of dir.now) G.Store.always_tells G.known desk.new }
+    requires sits { Sits (G.is_of dir.now) G.Store.always_tells (G.begun dir.now) G.known desk.old }
+    ensures sits { Sits (G.is_of dir.now) G.Store.always_tells (G.begun dir.now) G.known desk.new }
     ensures does { (t : Option (List ℕ)) → AtDesk (G.known desk.old) t (task_of 0 (call.GetSessionInfo id.now)) result (G.known desk.new) t }
 {
     match dir.session(rt, desk, id) {
@@ -199,8 +199,8 @@ pub fn sessions_of_group<R: Wait, G: DirPort>(
     desk: &mut G::Pass,
     group: &Units,
 ) -> Result<Data, ApiBad>
-    requires sits { Sits (G.is_of dir.now) G.Store.always_tells G.known desk.old }
-    ensures sits { Sits (G.is_of dir.now) G.Store.always_tells G.known desk.new }
+    requires sits { Sits (G.is_of dir.now) G.Store.always_tells (G.begun dir.now) G.known desk.old }
+    ensures sits { Sits (G.is_of dir.now) G.Store.always_tells (G.begun dir.now) G.known desk.new }
     ensures does { (t : Option (List ℕ)) → AtDesk (G.known desk.old) t (task_of 0 (call.ListSessionsOfGroup group.now)) result (G.known desk.new) t }
 {
     match dir.sessions_of_group(rt, desk, group) {
@@ -216,8 +216,8 @@ pub fn sessions_of_author<R: Wait, G: DirPort>(
     desk: &mut G::Pass,
     author: &Units,
 ) -> Result<Data, ApiBad>
-    requires sits { Sits (G.is_of dir.now) G.Store.always_tells G.known desk.old }
-    ensures sits { Sits (G.is_of dir.now) G.Store.always_tells G.known desk.new }
+    requires sits { Sits (G.is_of dir.now) G.Store.always_tells (G.begun dir.now) G.known desk.old }
+    ensures sits { Sits (G.is_of dir.now) G.Store.always_tells (G.begun dir.now) G.known desk.new }
     ensures does { (t : Option (List ℕ)) → AtDesk (G.known desk.old) t (task_of 0 (call.ListSessionsOfAuthor author.now)) result (G.known desk.new) t }
 {
     match dir.sessions_of_author(rt, desk, author) {
@@ -234,8 +234,8 @@ pub fn read_only<R: Wait, G: DirPort, D: Draws>(
     pad: &PadId,
     draws: &mut D,
 ) -> Result<Data, ApiBad>
-    requires sits { Sits (G.is_of dir.now) G.Store.always_tells G.known desk.old }
-    ensures sits { Sits (G.is_of dir.now) G.Store.always_tells G.known desk.new }
+    requires sits { Sits (G.is_of dir.now) G.Store.always_tells (G.begun dir.now) G.known desk.old }
+    ensures sits { Sits (G.is_of dir.now) G.Store.always_tells (G.begun dir.now) G.known desk.new }
     ensures does { AtDesk (G.known desk.old) (D.to_come draws.old) (read_only pad.now) result (G.known desk.new) (D.to_come draws.new) }
 {
     let drawn = draw(draws);

@@ -24,11 +24,11 @@ pub fn create_pad<R: Wait, P: PadPort>(
     text: &Units,
     now: u64,
 ) -> Result<Data, ApiBad>
-    requires waits { Waits (P.is_hall pads.now) P.is_register P.hall_known hall.old }
-    requires stand { All (Stands (P.is_of pads.now) P.Store.told P.known) taken.old.items }
+    requires waits { Waits (P.is_hall pads.now) (P.is_register (P.limits_of pads.now)) P.hall_known hall.old }
+    requires stand { All (Stands (P.is_of pads.now) (P.limits_of pads.now) P.Store.told P.Store.failures P.begun P.known) taken.old.items }
     requires text { is_well_formed text.now ≡ true }
-    ensures waits { Waits (P.is_hall pads.now) P.is_register P.hall_known hall.new }
-    ensures stand { All (Stands (P.is_of pads.now) P.Store.told P.known) taken.new.items }
+    ensures waits { Waits (P.is_hall pads.now) (P.is_register (P.limits_of pads.now)) P.hall_known hall.new }
+    ensures stand { All (Stands (P.is_of pads.now) (P.limits_of pads.now) P.Store.told P.Store.failures P.begun P.known) taken.new.items }
     ensures does { AtHall (P.hall_known hall.old) (map (stay_of P.known P.name_of P.cell_of) taken.old.items) (task_of now (call.CreatePad id.now text.now)) result (P.hall_known hall.new) (map (stay_of P.known P.name_of P.cell_of) taken.new.items) }
 {
     let _birth = create(rt, pads, hall, taken, id, Param::PadId, text, now)?;
@@ -45,10 +45,10 @@ pub fn get_text<R: Wait, P: PadPort>(
     id: &PadId,
     rev: Option<u64>,
 ) -> Result<Data, ApiBad>
-    requires waits { Waits (P.is_hall pads.now) P.is_register P.hall_known hall.old }
-    requires stand { All (Stands (P.is_of pads.now) P.Store.told P.known) taken.old.items }
-    ensures waits { Waits (P.is_hall pads.now) P.is_register P.hall_known hall.new }
-    ensures stand { All (Stands (P.is_of pads.now) P.Store.told P.known) taken.new.items }
+    requires waits { Waits (P.is_hall pads.now) (P.is_register (P.limits_of pads.now)) P.hall_known hall.old }
+    requires stand { All (Stands (P.is_of pads.now) (P.limits_of pads.now) P.Store.told P.Store.failures P.begun P.known) taken.old.items }
+    ensures waits { Waits (P.is_hall pads.now) (P.is_register (P.limits_of pads.now)) P.hall_known hall.new }
+    ensures stand { All (Stands (P.is_of pads.now) (P.limits_of pads.now) P.Store.told P.Store.failures P.begun P.known) taken.new.items }
     ensures does { AtHall (P.hall_known hall.old) (map (stay_of P.known P.name_of P.cell_of) taken.old.items) (task_of 0 (call.GetText id.now rev)) result (P.hall_known hall.new) (map (stay_of P.known P.name_of P.cell_of) taken.new.items) }
 {
     let doc = text(rt, pads, hall, taken, id, rev)?;
@@ -65,11 +65,11 @@ pub fn set_pad_text<R: Wait, P: PadPort>(
     text: &Units,
     now: u64,
 ) -> Result<Data, ApiBad>
-    requires waits { Waits (P.is_hall pads.now) P.is_register P.hall_known hall.old }
-    requires stand { All (Stands (P.is_of pads.now) P.Store.told P.known) taken.old.items }
+    requires waits { Waits (P.is_hall pads.now) (P.is_register (P.limits_of pads.now)) P.hall_known hall.old }
+    requires stand { All (Stands (P.is_of pads.now) (P.limits_of pads.now) P.Store.told P.Store.failures P.begun P.known) taken.old.items }
     requires text { is_well_formed text.now ≡ true }
-    ensures waits { Waits (P.is_hall pads.now) P.is_register P.hall_known hall.new }
-    ensures stand { All (Stands (P.is_of pads.now) P.Store.told P.known) taken.new.items }
+    ensures waits { Waits (P.is_hall pads.now) (P.is_register (P.limits_of pads.now)) P.hall_known hall.new }
+    ensures stand { All (Stands (P.is_of pads.now) (P.limits_of pads.now) P.Store.told P.Store.failures P.begun P.known) taken.new.items }
     ensures does { AtHall (P.hall_known hall.old) (map (stay_of P.known P.name_of P.cell_of) taken.old.items) (task_of now (call.SetText id.now text.now)) result (P.hall_known hall.new) (map (stay_of P.known P.name_of P.cell_of) taken.new.items) }
 {
     let _committed = set_text(rt, pads, hall, taken, id, text, now)?;
@@ -84,10 +84,10 @@ pub fn revisions<R: Wait, P: PadPort>(
     taken: &mut Vec<P::Pass>,
     id: &PadId,
 ) -> Result<Data, ApiBad>
-    requires waits { Waits (P.is_hall pads.now) P.is_register P.hall_known hall.old }
-    requires stand { All (Stands (P.is_of pads.now) P.Store.told P.known) taken.old.items }
-    ensures waits { Waits (P.is_hall pads.now) P.is_register P.hall_known hall.new }
-    ensures stand { All (Stands (P.is_of pads.now) P.Store.told P.known) taken.new.items }
+    requires waits { Waits (P.is_hall pads.now) (P.is_register (P.limits_of pads.now)) P.hall_known hall.old }
+    requires stand { All (Stands (P.is_of pads.now) (P.limits_of pads.now) P.Store.told P.Store.failures P.begun P.known) taken.old.items }
+    ensures waits { Waits (P.is_hall pads.now) (P.is_register (P.limits_of pads.now)) P.hall_known hall.new }
+    ensures stand { All (Stands (P.is_of pads.now) (P.limits_of pads.now) P.Store.told P.Store.failures P.begun P.known) taken.new.items }
     ensures does { AtHall (P.hall_known hall.old) (map (stay_of P.known P.name_of P.cell_of) taken.old.items) (task_of 0 (call.GetRevisionsCount id.now)) result (P.hall_known hall.new) (map (stay_of P.known P.name_of P.cell_of) taken.new.items) }
 {
     let status = status(rt, pads, hall, taken, id)?;
@@ -102,10 +102,10 @@ pub fn last_edited<R: Wait, P: PadPort>(
     taken: &mut Vec<P::Pass>,
     id: &PadId,
 ) -> Result<Data, ApiBad>
-    requires waits { Waits (P.is_hall pads.now) P.is_register P.hall_known hall.old }
-    requires stand { All (Stands (P.is_of pads.now) P.Store.told P.known) taken.old.items }
-    ensures waits { Waits (P.is_hall pads.now) P.is_register P.hall_known hall.new }
-    ensures stand { All (Stands (P.is_of pads.now) P.Store.told P.known) taken.new.items }
+    requires waits { Waits (P.is_hall pads.now) (P.is_register (P.limits_of pads.now)) P.hall_known hall.old }
+    requires stand { All (Stands (P.is_of pads.now) (P.limits_of pads.now) P.Store.told P.Store.failures P.begun P.known) taken.old.items }
+    ensures waits { Waits (P.is_hall pads.now) (P.is_register (P.limits_of pads.now)) P.hall_known hall.new }
+    ensures stand { All (Stands (P.is_of pads.now) (P.limits_of pads.now) P.Store.told P.Store.failures P.begun P.known) taken.new.items }
     ensures does { AtHall (P.hall_known hall.old) (map (stay_of P.known P.name_of P.cell_of) taken.old.items) (task_of 0 (call.GetLastEdited id.now)) result (P.hall_known hall.new) (map (stay_of P.known P.name_of P.cell_of) taken.new.items) }
 {
     let status = status(rt, pads, hall, taken, id)?;
@@ -120,10 +120,10 @@ pub fn users<R: Wait, P: PadPort>(
     taken: &mut Vec<P::Pass>,
     id: &PadId,
 ) -> Result<Data, ApiBad>
-    requires waits { Waits (P.is_hall pads.now) P.is_register P.hall_known hall.old }
-    requires stand { All (Stands (P.is_of pads.now) P.Store.told P.known) taken.old.items }
-    ensures waits { Waits (P.is_hall pads.now) P.is_register P.hall_known hall.new }
-    ensures stand { All (Stands (P.is_of pads.now) P.Store.told P.known) taken.new.items }
+    requires waits { Waits (P.is_hall pads.now) (P.is_register (P.limits_of pads.now)) P.hall_known hall.old }
+    requires stand { All (Stands (P.is_of pads.now) (P.limits_of pads.now) P.Store.told P.Store.failures P.begun P.known) taken.old.items }
+    ensures waits { Waits (P.is_hall pads.now) (P.is_register (P.limits_of pads.now)) P.hall_known hall.new }
+    ensures stand { All (Stands (P.is_of pads.now) (P.limits_of pads.now) P.Store.told P.Store.failures P.begun P.known) taken.new.items }
     ensures does { AtHall (P.hall_known hall.old) (map (stay_of P.known P.name_of P.cell_of) taken.old.items) (task_of 0 (call.PadUsersCount id.now)) result (P.hall_known hall.new) (map (stay_of P.known P.name_of P.cell_of) taken.new.items) }
 {
     let status = status(rt, pads, hall, taken, id)?;
@@ -139,10 +139,10 @@ pub fn set_public_status<R: Wait, P: PadPort>(
     id: &PadId,
     on: bool,
 ) -> Result<Data, ApiBad>
-    requires waits { Waits (P.is_hall pads.now) P.is_register P.hall_known hall.old }
-    requires stand { All (Stands (P.is_of pads.now) P.Store.told P.known) taken.old.items }
-    ensures waits { Waits (P.is_hall pads.now) P.is_register P.hall_known hall.new }
-    ensures stand { All (Stands (P.is_of pads.now) P.Store.told P.known) taken.new.items }
+    requires waits { Waits (P.is_hall pads.now) (P.is_register (P.limits_of pads.now)) P.hall_known hall.old }
+    requires stand { All (Stands (P.is_of pads.now) (P.limits_of pads.now) P.Store.told P.Store.failures P.begun P.known) taken.old.items }
+    ensures waits { Waits (P.is_hall pads.now) (P.is_register (P.limits_of pads.now)) P.hall_known hall.new }
+    ensures stand { All (Stands (P.is_of pads.now) (P.limits_of pads.now) P.Store.told P.Store.failures P.begun P.known) taken.new.items }
     ensures does { AtHall (P.hall_known hall.old) (map (stay_of P.known P.name_of P.cell_of) taken.old.items) (task_of 0 (call.SetPublicStatus id.now on)) result (P.hall_known hall.new) (map (stay_of P.known P.name_of P.cell_of) taken.new.items) }
 {
     let () = set_public(rt, pads, hall, taken, id, on)?;
@@ -157,10 +157,10 @@ pub fn public_status<R: Wait, P: PadPort>(
     taken: &mut Vec<P::Pass>,
     id: &PadId,
 ) -> Result<Data, ApiBad>
-    requires waits { Waits (P.is_hall pads.now) P.is_register P.hall_known hall.old }
-    requires stand { All (Stands (P.is_of pads.now) P.Store.told P.known) taken.old.items }
-    ensures waits { Waits (P.is_hall pads.now) P.is_register P.hall_known hall.new }
-    ensures stand { All (Stands (P.is_of pads.now) P.Store.told P.known) taken.new.items }
+    requires waits { Waits (P.is_hall pads.now) (P.is_register (P.limits_of pads.now)) P.hall_known hall.old }
+    requires stand { All (Stands (P.is_of pads.now) (P.limits_of pads.now) P.Store.told P.Store.failures P.begun P.known) taken.old.items }
+    ensures waits { Waits (P.is_hall pads.now) (P.is_register (P.limits_of pads.now)) P.hall_known hall.new }
+    ensures stand { All (Stands (P.is_of pads.now) (P.limits_of pads.now) P.Store.told P.Store.failures P.begun P.known) taken.new.items }
     ensures does { AtHall (P.hall_known hall.old) (map (stay_of P.known P.name_of P.cell_of) taken.old.items) (task_of 0 (call.GetPublicStatus id.now)) result (P.hall_known hall.new) (map (stay_of P.known P.name_of P.cell_of) taken.new.items) }
 {
     let status = status(rt, pads, hall, taken, id)?;

@@ -21,9 +21,9 @@ fn enter<R: Wait, P: PadPort>(
     taken: &mut Vec<P::Pass>,
     id: &PadId,
 ) -> Result<P::Pass, ApiBad>
-    requires waits { Waits (P.is_hall pads.now) P.is_register P.hall_known hall.old }
-    ensures waits { Waits (P.is_hall pads.now) P.is_register P.hall_known hall.new }
-    ensures stands { IfOk result (Stands (P.is_of pads.now) P.Store.told P.known) }
+    requires waits { Waits (P.is_hall pads.now) (P.is_register (P.limits_of pads.now)) P.hall_known hall.old }
+    ensures waits { Waits (P.is_hall pads.now) (P.is_register (P.limits_of pads.now)) P.hall_known hall.new }
+    ensures stands { IfOk result (Stands (P.is_of pads.now) (P.limits_of pads.now) P.Store.told P.Store.failures P.begun P.known) }
     ensures enters { IfOk result (λ pass. Enters (P.hall_known hall.old) id.now (stay_of P.known P.name_of P.cell_of pass) (P.hall_known hall.new)) }
     ensures none { IfErr result (λ why. IsTurnedAway (P.hall_known hall.old) id.now why (P.hall_known hall.new)) }
     ensures room { OnOk result (vec_len taken.new < vec_capacity taken.new) }
@@ -47,11 +47,11 @@ pub fn create<R: Wait, P: PadPort>(
     text: &Units,
     now: u64,
 ) -> Result<u64, ApiBad>
-    requires waits { Waits (P.is_hall pads.now) P.is_register P.hall_known hall.old }
-    requires stand { All (Stands (P.is_of pads.now) P.Store.told P.known) taken.old.items }
+    requires waits { Waits (P.is_hall pads.now) (P.is_register (P.limits_of pads.now)) P.hall_known hall.old }
+    requires stand { All (Stands (P.is_of pads.now) (P.limits_of pads.now) P.Store.told P.Store.failures P.begun P.known) taken.old.items }
     requires text { is_well_formed text.now ≡ true }
-    ensures waits { Waits (P.is_hall pads.now) P.is_register P.hall_known hall.new }
-    ensures stand { All (Stands (P.is_of pads.now) P.Store.told P.known) taken.new.items }
+    ensures waits { Waits (P.is_hall pads.now) (P.is_register (P.limits_of pads.now)) P.hall_known hall.new }
+    ensures stand { All (Stands (P.is_of pads.now) (P.limits_of pads.now) P.Store.told P.Store.failures P.begun P.known) taken.new.items }
     ensures visits { AtHall (P.hall_known hall.old) (map (stay_of P.known P.name_of P.cell_of) taken.old.items) (create name id.now text.now now) result (P.hall_known hall.new) (map (stay_of P.known P.name_of P.cell_of) taken.new.items) }
 {
     let mut pass = enter(rt, pads, hall, taken, id)?;
@@ -69,10 +69,10 @@ pub fn delete<R: Wait, P: PadPort>(
     id: &PadId,
     now: u64,
 ) -> Result<(), ApiBad>
-    requires waits { Waits (P.is_hall pads.now) P.is_register P.hall_known hall.old }
-    requires stand { All (Stands (P.is_of pads.now) P.Store.told P.known) taken.old.items }
-    ensures waits { Waits (P.is_hall pads.now) P.is_register P.hall_known hall.new }
-    ensures stand { All (Stands (P.is_of pads.now) P.Store.told P.known) taken.new.items }
+    requires waits { Waits (P.is_hall pads.now) (P.is_register (P.limits_of pads.now)) P.hall_known hall.old }
+    requires stand { All (Stands (P.is_of pads.now) (P.limits_of pads.now) P.Store.told P.Store.failures P.begun P.known) taken.old.items }
+    ensures waits { Waits (P.is_hall pads.now) (P.is_register (P.limits_of pads.now)) P.hall_known hall.new }
+    ensures stand { All (Stands (P.is_of pads.now) (P.limits_of pads.now) P.Store.told P.Store.failures P.begun P.known) taken.new.items }
     ensures visits { AtHall (P.hall_known hall.old) (map (stay_of P.known P.name_of P.cell_of) taken.old.items) (delete id.now now) result (P.hall_known hall.new) (map (stay_of P.known P.name_of P.cell_of) taken.new.items) }
 {
     let mut pass = enter(rt, pads, hall, taken, id)?;
@@ -100,10 +100,10 @@ pub fn delete_if_there<R: Wait, P: PadPort>(
     id: &PadId,
     now: u64,
 ) -> Result<(), ApiBad>
-    requires waits { Waits (P.is_hall pads.now) P.is_register P.hall_known hall.old }
-    requires stand { All (Stands (P.is_of pads.now) P.Store.told P.known) taken.old.items }
-    ensures waits { Waits (P.is_hall pads.now) P.is_register P.hall_known hall.new }
-    ensures stand { All (Stands (P.is_of pads.now) P.Store.told P.known) taken.new.items }
+    requires waits { Waits (P.is_hall pads.now) (P.is_register (P.limits_of pads.now)) P.hall_known hall.old }
+    requires stand { All (Stands (P.is_of pads.now) (P.limits_of pads.now) P.Store.told P.Store.failures P.begun P.known) taken.old.items }
+    ensures waits { Waits (P.is_hall pads.now) (P.is_register (P.limits_of pads.now)) P.hall_known hall.new }
+    ensures stand { All (Stands (P.is_of pads.now) (P.limits_of pads.now) P.Store.told P.Store.failures P.begun P.known) taken.new.items }
     ensures visits { AtHall (P.hall_known hall.old) (map (stay_of P.known P.name_of P.cell_of) taken.old.items) (delete_if_there id.now now) result (P.hall_known hall.new) (map (stay_of P.known P.name_of P.cell_of) taken.new.items) }
 {
     let mut pass = enter(rt, pads, hall, taken, id)?;
@@ -121,10 +121,10 @@ pub fn set_public<R: Wait, P: PadPort>(
     id: &PadId,
     on: bool,
 ) -> Result<(), ApiBad>
-    requires waits { Waits (P.is_hall pads.now) P.is_register P.hall_known hall.old }
-    requires stand { All (Stands (P.is_of pads.now) P.Store.told P.known) taken.old.items }
-    ensures waits { Waits (P.is_hall pads.now) P.is_register P.hall_known hall.new }
-    ensures stand { All (Stands (P.is_of pads.now) P.Store.told P.known) taken.new.items }
+    requires waits { Waits (P.is_hall pads.now) (P.is_register (P.limits_of pads.now)) P.hall_known hall.old }
+    requires stand { All (Stands (P.is_of pads.now) (P.limits_of pads.now) P.Store.told P.Store.failures P.begun P.known) taken.old.items }
+    ensures waits { Waits (P.is_hall pads.now) (P.is_register (P.limits_of pads.now)) P.hall_known hall.new }
+    ensures stand { All (Stands (P.is_of pads.now) (P.limits_of pads.now) P.Store.told P.Store.failures P.begun P.known) taken.new.items }
     ensures visits { AtHall (P.hall_known hall.old) (map (stay_of P.known P.name_of P.cell_of) taken.old.items) (set_public id.now on) result (P.hall_known hall.new) (map (stay_of P.known P.name_of P.cell_of) taken.new.items) }
 {
     let mut pass = enter(rt, pads, hall, taken, id)?;
@@ -142,10 +142,10 @@ pub fn text<R: Wait, P: PadPort>(
     id: &PadId,
     rev: Option<u64>,
 ) -> Result<Doc, ApiBad>
-    requires waits { Waits (P.is_hall pads.now) P.is_register P.hall_known hall.old }
-    requires stand { All (Stands (P.is_of pads.now) P.Store.told P.known) taken.old.items }
-    ensures waits { Waits (P.is_hall pads.now) P.is_register P.hall_known hall.new }
-    ensures stand { All (Stands (P.is_of pads.now) P.Store.told P.known) taken.new.items }
+    requires waits { Waits (P.is_hall pads.now) (P.is_register (P.limits_of pads.now)) P.hall_known hall.old }
+    requires stand { All (Stands (P.is_of pads.now) (P.limits_of pads.now) P.Store.told P.Store.failures P.begun P.known) taken.old.items }
+    ensures waits { Waits (P.is_hall pads.now) (P.is_register (P.limits_of pads.now)) P.hall_known hall.new }
+    ensures stand { All (Stands (P.is_of pads.now) (P.limits_of pads.now) P.Store.told P.Store.failures P.begun P.known) taken.new.items }
     ensures visits { AtHall (P.hall_known hall.old) (map (stay_of P.known P.name_of P.cell_of) taken.old.items) (text id.now rev) result (P.hall_known hall.new) (map (stay_of P.known P.name_of P.cell_of) taken.new.items) }
 {
     let mut pass = enter(rt, pads, hall, taken, id)?;
@@ -164,11 +164,11 @@ pub fn set_text<R: Wait, P: PadPort>(
     text: &Units,
     now: u64,
 ) -> Result<Committed, ApiBad>
-    requires waits { Waits (P.is_hall pads.now) P.is_register P.hall_known hall.old }
-    requires stand { All (Stands (P.is_of pads.now) P.Store.told P.known) taken.old.items }
+    requires waits { Waits (P.is_hall pads.now) (P.is_register (P.limits_of pads.now)) P.hall_known hall.old }
+    requires stand { All (Stands (P.is_of pads.now) (P.limits_of pads.now) P.Store.told P.Store.failures P.begun P.known) taken.old.items }
     requires text { is_well_formed text.now ≡ true }
-    ensures waits { Waits (P.is_hall pads.now) P.is_register P.hall_known hall.new }
-    ensures stand { All (Stands (P.is_of pads.now) P.Store.told P.known) taken.new.items }
+    ensures waits { Waits (P.is_hall pads.now) (P.is_register (P.limits_of pads.now)) P.hall_known hall.new }
+    ensures stand { All (Stands (P.is_of pads.now) (P.limits_of pads.now) P.Store.told P.Store.failures P.begun P.known) taken.new.items }
     ensures visits { AtHall (P.hall_known hall.old) (map (stay_of P.known P.name_of P.cell_of) taken.old.items) (set_text id.now text.now now) result (P.hall_known hall.new) (map (stay_of P.known P.name_of P.cell_of) taken.new.items) }
 {
     let mut pass = enter(rt, pads, hall, taken, id)?;
@@ -185,10 +185,10 @@ pub fn status<R: Wait, P: PadPort>(
     taken: &mut Vec<P::Pass>,
     id: &PadId,
 ) -> Result<PadStatus, ApiBad>
-    requires waits { Waits (P.is_hall pads.now) P.is_register P.hall_known hall.old }
-    requires stand { All (Stands (P.is_of pads.now) P.Store.told P.known) taken.old.items }
-    ensures waits { Waits (P.is_hall pads.now) P.is_register P.hall_known hall.new }
-    ensures stand { All (Stands (P.is_of pads.now) P.Store.told P.known) taken.new.items }
+    requires waits { Waits (P.is_hall pads.now) (P.is_register (P.limits_of pads.now)) P.hall_known hall.old }
+    requires stand { All (Stands (P.is_of pads.now) (P.limits_of pads.now) P.Store.told P.Store.failures P.begun P.known) taken.old.items }
+    ensures waits { Waits (P.is_hall pads.now) (P.is_register (P.limits_of pads.now)) P.hall_known hall.new }
+    ensures stand { All (Stands (P.is_of pads.now) (P.limits_of pads.now) P.Store.told P.Store.failures P.begun P.known) taken.new.items }
     ensures visits { AtHall (P.hall_known hall.old) (map (stay_of P.known P.name_of P.cell_of) taken.old.items) (status id.now) result (P.hall_known hall.new) (map (stay_of P.known P.name_of P.cell_of) taken.new.items) }
 {
     let mut pass = enter(rt, pads, hall, taken, id)?;

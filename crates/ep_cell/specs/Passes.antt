@@ -24,6 +24,18 @@ module _ {M E R : Type 0} where
   abbrev pub IsOf : Cell M E R → PassOf M E R → Type 0
   IsOf cell pass = home_of pass ≡ id_of cell
 
+  -- the machine as it was put in
+  abbrev pub first_of : Cell M E R → M
+  first_of cell = cell.first.value
+
+  -- the machine with which a pass's history began
+  abbrev pub first : PassOf M E R → M
+  first pass = pass.first.value.value
+
+  -- the pass is of the cell, and its history began with the machine that was put in there
+  abbrev pub IsFrom : Cell M E R → PassOf M E R → Type 0
+  IsFrom cell pass = IsOf cell pass × (first pass ≡ first_of cell)
+
   abbrev pub number : PassOf M E R → ℕ
   number pass = pass.seat.me.0.number
 

@@ -5,9 +5,8 @@ ghost use Rattle.std.specs.Prelude.{◌≡◌, ◌-◌, ◌<◌, ◌^◌, [], �
 ghost use Rattle.atomic_table.specs.Table.{step};
 ghost use Rattle.ep_cell.specs.declared.view.Held.{Held};
 ghost use Rattle.ep_cell.specs.History.{pairs};
-ghost use Rattle.ep_cell.specs.Passes.{IsOf, Makes, known, seen};
-ghost use Rattle.ep_cell.specs.Rule.{IsReady};
-ghost use Rattle.ep_cell.specs.Steps.{Takes, HasMade};
+ghost use Rattle.ep_cell.specs.Passes.{IsOf, Makes, first, known, seen};
+ghost use Rattle.ep_cell.specs.Steps.{IsHeld, Takes, HasMade};
 
 use crate::cell::{Cell, Pass};
 use crate::rule::{Append, Count, Put, SeatOf, Take};
@@ -23,8 +22,9 @@ impl<M: Machine> Cell<M> {
         requires of { IsOf self.now pass.old }
         requires allowed { M.allows entry }
         ensures of { IsOf self.now pass.new }
+        ensures first { first pass.new ≡ first pass.old }
         ensures makes { Makes (known pass.old) entry result (known pass.new) }
-        ensures legal { M.legal (pairs (seen pass.new)) }
+        ensures legal { M.legal (first pass.new) (pairs (seen pass.new)) }
     {
         let turn = self.turn.lock(rt);
         self.take(rt, &mut pass.seat);
@@ -70,10 +70,10 @@ impl<M: Machine> Cell<M> {
     // The machine makes a call, in the slot that the seat has.
     fn make(&self, seat: &mut SeatOf<M>, entry: M::Entry) -> M::Reply
         requires of { seat.old.table_id ≡ self.now.board.shared.table_id }
-        requires has { (h : Held M M.Entry M.Reply) × (seat.old.me.1 ≡ (0, h) ∷ []) × IsReady M.stands M.legal h seat.old.me.0.seen }
+        requires has { (h : Held M M.Entry M.Reply) × (seat.old.me.1 ≡ (0, h) ∷ []) × IsHeld M.stands M.legal seat.old.me.0.begun h seat.old.me.0.seen }
         requires allowed { M.allows entry }
         ensures of { (seat.new.table_id ≡ seat.old.table_id) × (seat.new.id ≡ seat.old.id) × (seat.new.me.0 ≡ seat.old.me.0) }
-        ensures made { (h : Held M M.Entry M.Reply) × (seat.new.me.1 ≡ (0, h) ∷ []) × HasMade M.stands M.legal h seat.old.me.0.seen entry result }
+        ensures made { (h : Held M M.Entry M.Reply) × (seat.new.me.1 ≡ (0, h) ∷ []) × HasMade M.stands M.legal seat.old.me.0.begun h seat.old.me.0.seen entry result }
     {
         let asked = Snapshot::of(&entry);
         let held = self.board.shared.exchange(seat, 0, nothing());

@@ -1,7 +1,8 @@
 //! A cell is made.
 
-ghost use Rattle.std.specs.Prelude.{◌≡◌, [], ◌∷◌, Some, None, IfOk, IfErr, OnOk, IsSome, IsOk};
+ghost use Rattle.std.specs.Prelude.{◌≡◌, [], ◌∷◌, Some, None, IfOk, IfErr, OnOk, IsOkAnd, IsSome};
 ghost use Rattle.ep_cell.specs.declared.view.Held.{Held};
+ghost use Rattle.ep_cell.specs.Passes.{first_of};
 
 use crate::cell::Cell;
 use crate::rule::{Board, HeldOf, SeatOf};
@@ -10,42 +11,49 @@ use atomic_table::Table;
 use ep_outside::{Machine, Refused};
 use ep_units::NoMemory;
 use std::alloc::Global;
+use std::snapshot::Snapshot;
 use std::sync::Mutex;
 
 impl<M: Machine> Cell<M> {
-    /// A cell round a machine that has done nothing since its first state.
+    /// A cell round a machine that has done nothing yet.
     pub fn new(alloc: Global, machine: M) -> Result<Cell<M>, Refused<M, NoMemory>>
-        requires begun { M.stands machine [] }
+        requires begun { M.stands machine machine [] }
+        ensures first { IfOk result (λ cell. first_of cell ≡ machine) }
         ensures refused { IfErr result (λ r. r.back ≡ machine) }
     {
+        let first = Snapshot::of(&machine);
         let slots = one_slot(alloc, machine)?;
-        Cell::over(Cell::table(alloc, slots))
+        let made = Cell::table(alloc, slots, &first);
+        Cell::over(made, first)
     }
 
     fn table(
         alloc: Global,
         slots: Vec<HeldOf<M>>,
+        first: &Snapshot<M>,
     ) -> Result<(Board<M>, SeatOf<M>), atomic_table::Refused<HeldOf<M>, Global>>
-        requires { (mach : M) × (slots.items ≡ record { machine = Some mach; last = None } ∷ []) × M.stands mach [] }
-        ensures ok { IfOk result (λ t. (t.0.shared.table_id.words ≡ 3) × (t.0.shared.table_id.slots ≡ 1)) }
+        requires { (slots.items ≡ record { machine = Some first.now.value; last = None } ∷ []) × M.stands first.now.value first.now.value [] }
+        ensures ok { IfOk result (λ t. (t.0.shared.table_id.words ≡ 3) × (t.0.shared.table_id.slots ≡ 1) × (t.0.shared.key ≡ first.now)) }
         ensures err { IfErr result (λ r. r.slots.items ≡ slots.items) }
     {
         let words = [0, 1, 0];
-        Table::new(alloc, &words, slots, &())
+        Table::new(alloc, &words, slots, first)
     }
 
     fn over(
         made: Result<(Board<M>, SeatOf<M>), atomic_table::Refused<HeldOf<M>, Global>>,
+        first: Snapshot<M>,
     ) -> Result<Cell<M>, Refused<M, NoMemory>>
-        requires ok { IfOk made (λ t. (t.0.shared.table_id.words ≡ 3) × (t.0.shared.table_id.slots ≡ 1)) }
+        requires ok { IfOk made (λ t. (t.0.shared.table_id.words ≡ 3) × (t.0.shared.table_id.slots ≡ 1) × (t.0.shared.key ≡ first)) }
         requires err { IfErr made (λ r. (h : Held M M.Entry M.Reply) × (r.slots.items ≡ h ∷ []) × IsSome h.machine) }
-        ensures ok { OnOk made (IsOk result) }
+        ensures ok { OnOk made (IsOkAnd result (λ cell. first_of cell ≡ first.value)) }
         ensures err { IfErr made (λ e. IfErr result (λ r. (h : Held M M.Entry M.Reply) × (e.slots.items ≡ h ∷ []) × (h.machine ≡ Some r.back))) }
     {
         match made {
             Ok((board, _seat)) => Ok(Cell {
                 turn: Mutex::new(()),
                 board,
+                first,
             }),
             Err(refused) => {
                 let mut slots = refused.slots;

@@ -1,6 +1,6 @@
 //! The rule that a cell's table keeps, and the kinds of step that keep it.
 
-ghost use Rattle.std.specs.Prelude.{false, []};
+ghost use Rattle.std.specs.Prelude.{false, [], Some, None};
 ghost use Rattle.ep_cell.specs.Rule.{IsCounted, viewing, joined};
 ghost use Rattle.ep_cell.specs.Steps.{Enters, Numbers, Takes, Counts, Appends, Puts, Learns};
 
@@ -9,24 +9,25 @@ use atomic_table::{Join, Play, Seat, Split, Table, TableRule};
 use ep_outside::Machine;
 use std::alloc::Global;
 use std::marker::PhantomData;
+use std::snapshot::Snapshot;
 
 pub type HeldOf<M> = Held<M, <M as Machine>::Entry, <M as Machine>::Reply>;
 
-pub type ViewOf<M> = View<<M as Machine>::Entry, <M as Machine>::Reply>;
+pub type ViewOf<M> = View<M, <M as Machine>::Entry, <M as Machine>::Reply>;
 
 pub type SeatOf<M> = Seat<HeldOf<M>, ViewOf<M>>;
 
-pub type Board<M> = Table<HeldOf<M>, ViewOf<M>, (), Counted<M>, Global>;
+pub type Board<M> = Table<HeldOf<M>, ViewOf<M>, Snapshot<M>, Counted<M>, Global>;
 
-/// The rule of a cell.
+/// The rule of a cell. Its key is the machine as it was put in.
 pub struct Counted<M> {
     of: PhantomData<M>,
 }
 
-impl<M: Machine> TableRule<HeldOf<M>, ViewOf<M>, ()> for Counted<M> {
-    ghost holds = { λ _ s. IsCounted M.stands M.legal s };
+impl<M: Machine> TableRule<HeldOf<M>, ViewOf<M>, Snapshot<M>> for Counted<M> {
+    ghost holds = { λ key s. IsCounted key.value (M.stands key.value) (M.legal key.value) s };
 
-    ghost first = { λ _. viewing 0 0 false [] };
+    ghost first = { λ key. viewing (Some key.value) 0 0 false [] };
 }
 
 /// A new seat has seen the history so far.
@@ -44,7 +45,7 @@ pub struct Number<M> {
 }
 
 impl<M: Machine> Play<HeldOf<M>, ViewOf<M>> for Number<M> {
-    ghost then = { Numbers M.stands M.legal };
+    ghost then = { Numbers };
 }
 
 /// The machine is taken.
@@ -62,7 +63,7 @@ pub struct Count<M> {
 }
 
 impl<M: Machine> Play<HeldOf<M>, ViewOf<M>> for Count<M> {
-    ghost then = { Counts M.stands M.legal };
+    ghost then = { Counts };
 }
 
 /// The history gets a call.
@@ -71,7 +72,7 @@ pub struct Append<M> {
 }
 
 impl<M: Machine> Play<HeldOf<M>, ViewOf<M>> for Append<M> {
-    ghost then = { Appends M.stands M.legal };
+    ghost then = { Appends };
 }
 
 /// The machine is put back.
@@ -80,7 +81,7 @@ pub struct Put<M> {
 }
 
 impl<M: Machine> Play<HeldOf<M>, ViewOf<M>> for Put<M> {
-    ghost then = { Puts M.stands M.legal };
+    ghost then = { Puts };
 }
 
 /// A seat learns the history's length.
@@ -89,20 +90,20 @@ pub struct Learn<M> {
 }
 
 impl<M: Machine> Play<HeldOf<M>, ViewOf<M>> for Learn<M> {
-    ghost then = { Learns M.stands M.legal };
+    ghost then = { Learns };
 }
 
 /// A note of what a seat has seen is split off, or taken in by another seat.
 pub struct Note;
 
-impl<E, R> Split<View<E, R>> for Note {
+impl<M, E, R> Split<View<M, E, R>> for Note {
     ghost left = { λ v. v };
 
-    ghost right = { λ v. viewing 0 v.floor false v.seen };
+    ghost right = { λ v. viewing v.begun 0 v.floor false v.seen };
 }
 
-impl<E, R> Join<View<E, R>> for Note {
+impl<M, E, R> Join<View<M, E, R>> for Note {
     ghost both = { joined };
 
-    ghost spent = { viewing 0 0 false [] };
+    ghost spent = { viewing None 0 0 false [] };
 }

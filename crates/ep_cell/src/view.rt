@@ -11,7 +11,11 @@ pub struct Call<E, R> {
 }
 
 /// What a seat knows. No value of it is made.
-pub struct View<E, R> {
+pub struct View<M, E, R> {
+    /// The machine as it was put in. A seat that another took in knows none.
+    pub begun: Option<M>,
+    /// The same, as the other seat of the last join knew it.
+    pub theirs: Option<M>,
     /// 0 is no pass's number.
     pub number: u64,
     pub seen: LinkedList<Call<E, R>>,

@@ -6,7 +6,7 @@ use Rattle.ep_outside.specs.declared.keeper.Pair.{Pair}
 use Rattle.ep_outside.specs.declared.keeper.Put.{Put}
 use Rattle.ep_dir_records.specs.Answers.{Answers, Makes, Seen}
 use Rattle.ep_dir_records.specs.declared.dir_bad.DirBad.{DirBad}
-use Rattle.ep_groups.specs.History.{AllTell, Call, Follows, IsLegal, Leads, Runs, Step}
+use Rattle.ep_groups.specs.History.{Call, Follows, IsLegal, Leads, Runs, Step}
 use Rattle.ep_groups.specs.declared.entries.DirEntry.{DirEntry}
 use Rattle.ep_groups.specs.declared.entries.DirEntry.TheVariants as entry
 use Rattle.ep_groups.specs.declared.entries.DirReply.{DirReply}
@@ -58,9 +58,7 @@ runs_follow first last m (c ∷ cs) always told run =
     let next = told_map run.0.told (run.2 on) in
     (next.0, (step_leads first run.0 m next.0 c.0 c.1 run.1 told next.1).1, runs_follow run.0 last next.0 cs on next.1 run.3)
 
-pub legal_follows : {K : Type 0} (always_tells : K → Bool) (h : List (DirEntry × DirReply)) → AllTell always_tells → IsLegal always_tells h → (m : List Pair) × Follows m h
-legal_follows always_tells h all legal =
-    let begun = legal.1.1 in
-    let on = begun.telling all in
-    let at = told_map legal.1.0.told (begun.told on) in
-    (at.0, runs_follow legal.1.0 legal.0 at.0 h on at.1 legal.1.2)
+pub legal_follows : {K : Type 0} (always_tells : K → Bool) (first : Seen) (h : List (DirEntry × DirReply)) → first.always_tells ≡ true → IsLegal always_tells first h → (m : List Pair) × (first.told ≡ Some m) × Follows m h
+legal_follows always_tells first h on legal =
+    let at = told_map first.told (legal.1.0.told on) in
+    (at.0, at.1, runs_follow first legal.0 at.0 h on at.1 legal.1.1)

@@ -51,13 +51,13 @@ pub record IsFirst {K : Type 0} (always_tells : K → Bool) (first : Seen) : Typ
   pub told : Tells first
   pub telling : AllTell always_tells → first.always_tells ≡ true
 
--- the state is reached by these calls, from some first state
-abbrev pub Stands : {K : Type 0} → (K → Bool) → Seen → List (DirEntry × DirReply) → Type 0
-Stands always_tells last h = (first : Seen) × IsFirst always_tells first × Runs first h last
+-- a directory that was in the first state as it began is in the last: it has made these calls in between
+abbrev pub Stands : {K : Type 0} → (K → Bool) → Seen → Seen → List (DirEntry × DirReply) → Type 0
+Stands always_tells first last h = IsFirst always_tells first × Runs first h last
 
--- each reply is the one that the calls before it ask for, through states that tell where every keeper of the type does
-abbrev pub IsLegal : {K : Type 0} → (K → Bool) → List (DirEntry × DirReply) → Type 0
-IsLegal always_tells h = (last : Seen) × Stands always_tells last h
+-- of a directory that began in this state, each reply is the one that the calls before it ask for, through states that tell where its keeper always does
+abbrev pub IsLegal : {K : Type 0} → (K → Bool) → Seen → List (DirEntry × DirReply) → Type 0
+IsLegal always_tells first h = (last : Seen) × Stands always_tells first last h
 
 -- by the definitions alone: a call with this reply makes the second map of the first
 abbrev pub Leads : List Pair → List Pair → DirEntry → DirReply → Type 0

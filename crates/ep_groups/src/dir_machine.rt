@@ -35,7 +35,7 @@ impl<K: Keeper> DirMachine<K> {
     /// The directory that stands in this keeper. No call is made yet.
     pub fn new(alloc: Global, keeper: K) -> DirMachine<K>
         ensures seen { result ≡ record { told = K.told keeper; always_tells = K.always_tells keeper; failures = K.failures keeper; is_steady = K.is_steady keeper } }
-        ensures begun { Stands K.always_tells result [] }
+        ensures begun { Stands K.always_tells result result [] }
     {
         let records = Records::new(alloc, keeper);
         records.tells();

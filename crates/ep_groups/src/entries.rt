@@ -134,11 +134,11 @@ impl<K: Keeper + Drop> Machine for DirMachine<K> {
 
     ghost allows = { λ _. Unit {0} };
 
-    ghost stands = { λ m h. Stands K.always_tells m h };
+    ghost stands = { Stands K.always_tells };
 
     ghost legal = { IsLegal K.always_tells };
 
-    ghost stands_legal = { λ m h s. (m, s) };
+    ghost stands_legal = { λ first m h s. (m, s) };
 
     fn call(&mut self, entry: DirEntry) -> DirReply {
         let reply = self.answer(&entry);

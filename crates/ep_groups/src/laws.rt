@@ -3,7 +3,7 @@
 //! What a directory alone has written it reads back, so that `Kept` tells of another program; and over a keeper
 //! that always tells, a legal history's replies are those of the definitions, one behind the other.
 
-ghost use Rattle.std.specs.Prelude.{◌≡◌, List, [], Some};
+ghost use Rattle.std.specs.Prelude.{◌≡◌, true, List, [], Some};
 ghost use Rattle.std.specs.List.{All};
 ghost use Rattle.ep_outside.specs.declared.keeper.Pair.{Pair};
 ghost use Rattle.ep_dir_records.specs.Answers.{Seen};
@@ -34,10 +34,12 @@ pub fn kept_never()
         → All (λ c. IsCall c.0) h → AreOurs n × All (λ c. IsNotKept c.1) h }
 {}
 
-/// Over a keeper of a type that always tells, some map stands before a legal history, and each reply is what
-/// the definitions answer on the map that the calls before it made of it.
+/// Of a directory whose keeper always tells, each reply of a legal history is what the definitions answer on
+/// the map that the calls before it made of the one that the keeper told as the directory began.
 pub fn legal_follows<K: Keeper>()
-    ensures { (h : List (DirEntry × DirReply)) → AllTell K.always_tells → IsLegal K.always_tells h → (m : List Pair) × Follows m h }
+    ensures follows { (first : Seen) (h : List (DirEntry × DirReply)) → first.always_tells ≡ true → IsLegal K.always_tells first h → (m : List Pair) × (first.told ≡ Some m) × Follows m h }
+    // So does the keeper of each directory over a type of keepers that always tell.
+    ensures telling { (first : Seen) (h : List (DirEntry × DirReply)) → AllTell K.always_tells → IsLegal K.always_tells first h → first.always_tells ≡ true }
 {}
 
 fn are_units(units: &[u16])

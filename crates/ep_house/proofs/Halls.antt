@@ -9,7 +9,7 @@ use Rattle.ep_cell.specs.declared.view.Call.{Call}
 use Rattle.ep_cell.specs.History.{StartsWith, call, calls_by, longer, pairs}
 use Rattle.ep_cell.specs.Passes.{IsFresh, Known, Makes}
 use Rattle.ep_pad.specs.declared.pass_bad.PassBad.{PassBad}
-use Rattle.ep_house.specs.Register.{IsLegal, all_told}
+use Rattle.ep_house.specs.Register.{Register, IsLegalFrom, all_told}
 use Rattle.ep_house.specs.Told.{told_call, told_log}
 use Rattle.ep_pad.specs.Halls.{Answer, Notes, cell_in, told_of}
 use Rattle.ep_house.proofs.Opened.{one_cell, cell_stays}
@@ -97,8 +97,8 @@ module _ {C B : Type 0} (id : C → TableId) where
 
   -- the cell that was answered is the one of the name
   module _ {H D : Type 0} (failed : H → ℕ) (shelf_told : H → List ℕ → Option Contents) (disk_failed : D → ℕ) (disk_told : D → Option Contents) (refuses : D → D → B → Type 0) where
-    pub answered : (v w : Known (List ℕ) (Result C (PassBad B))) (e : List ℕ) (c : C) → Makes v e (Ok c) w → IsLegal failed shelf_told disk_failed disk_told refuses (all_told id (pairs w.seen)) → cell_in (all_told id (pairs w.seen)) e ≡ Some (id c)
-    answered v w e c makes legal =
+    pub answered : (first : Register H D) (v w : Known (List ℕ) (Result C (PassBad B))) (e : List ℕ) (c : C) → Makes v e (Ok c) w → IsLegalFrom failed shelf_told disk_failed disk_told refuses first (all_told id (pairs w.seen)) → cell_in (all_told id (pairs w.seen)) e ≡ Some (id c)
+    answered first v w e c makes legal =
         let x = makes.extends in
         let whole : all_told id (pairs w.seen) ≡ all_told id (pairs (v.seen ++ x.0)) ++ (e, Ok (id c)) ∷ [] = ap (λ l. all_told id (pairs l)) x.1 ∙ told_pairs-append (v.seen ++ x.0) (call v.number e (Ok c) ∷ []) in
-        ap (λ l. cell_in l e) whole ∙ one_cell failed shelf_told disk_failed disk_told refuses (all_told id (pairs (v.seen ++ x.0))) e (id c) (subst (IsLegal failed shelf_told disk_failed disk_told refuses) whole legal)
+        ap (λ l. cell_in l e) whole ∙ one_cell failed shelf_told disk_failed disk_told refuses first (all_told id (pairs (v.seen ++ x.0))) e (id c) (subst (IsLegalFrom failed shelf_told disk_failed disk_told refuses first) whole legal)

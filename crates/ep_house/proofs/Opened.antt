@@ -7,7 +7,7 @@ use Rattle.atomic_table.specs.Seated.{TableId}
 use Rattle.ep_outside.specs.Disk.{Contents}
 use Rattle.ep_pad.specs.declared.pass_bad.PassBad.{PassBad}
 use Rattle.ep_pad.specs.declared.pass_bad.PassBad.TheVariants as bad
-use Rattle.ep_house.specs.Register.{Register, Step, IsOpen, Opens, Runs, Stands, IsLegal, found_in, all_told}
+use Rattle.ep_house.specs.Register.{Register, Step, IsOpen, Opens, Runs, Stands, IsLegalFrom, found_in, all_told}
 use Rattle.ep_pad.specs.Halls.{Answer, cell_in, or_cell, told_of}
 
 abbrev or_else : Option TableId → Option TableId → Option TableId
@@ -108,15 +108,14 @@ module _ {H D B : Type 0} (failed : H → ℕ) (told : H → List ℕ → Option
   last_opens s t (c ∷ cs) name id r = last_opens r.0 t cs name id r.2
 
   -- a name that was answered a cell was answered that one at first
-  pub one_cell : (h : List (List ℕ × Answer B)) (name : List ℕ) (id : TableId) → IsLegal failed told disk_failed disk_told refuses (h ++ (name, Ok id) ∷ []) → cell_in (h ++ (name, Ok id) ∷ []) name ≡ Some id
-  one_cell h name id l =
-      sym (runs_give l.1.0 l.0 (h ++ (name, Ok id) ∷ []) name l.1.2 ∙ ap (λ cs. or_else (found_in cs name) (cell_in (h ++ (name, Ok id) ∷ []) name)) l.1.1) ∙ last_opens l.1.0 l.0 h name id l.1.2
+  pub one_cell : (first : Register H D) (h : List (List ℕ × Answer B)) (name : List ℕ) (id : TableId) → IsLegalFrom failed told disk_failed disk_told refuses first (h ++ (name, Ok id) ∷ []) → cell_in (h ++ (name, Ok id) ∷ []) name ≡ Some id
+  one_cell first h name id l =
+      sym (runs_give first l.0 (h ++ (name, Ok id) ∷ []) name l.1.1 ∙ ap (λ cs. or_else (found_in cs name) (cell_in (h ++ (name, Ok id) ∷ []) name)) l.1.0.cells) ∙ last_opens first l.0 h name id l.1.1
 
-  pub stands_on : {C : Type 0} (id : C → TableId) (last now : Register H D) (name : List ℕ) (r : Result C (PassBad B)) → Steps last name (told_of id r) now
-      → (h : List (List ℕ × Result C (PassBad B))) → Stands failed told disk_failed disk_told refuses last (all_told id h) → Stands failed told disk_failed disk_told refuses now (all_told id (h ++ (name, r) ∷ []))
-  stands_on id last now name r p h s = (
+  pub stands_on : {C : Type 0} (id : C → TableId) (first last now : Register H D) (name : List ℕ) (r : Result C (PassBad B)) → Steps last name (told_of id r) now
+      → (h : List (List ℕ × Result C (PassBad B))) → Stands failed told disk_failed disk_told refuses first last (all_told id h) → Stands failed told disk_failed disk_told refuses first now (all_told id (h ++ (name, r) ∷ []))
+  stands_on id first last now name r p h s = (
     s.0,
-    s.1,
-    subst (λ l. Goes s.0 l now) (sym (map-append (λ c. (c.0, told_of id c.1)) h ((name, r) ∷ [])))
-        (runs_on s.0 last now (all_told id h) ((name, told_of id r) ∷ []) s.2 (now, p, refl)),
+    subst (λ l. Goes first l now) (sym (map-append (λ c. (c.0, told_of id c.1)) h ((name, r) ∷ [])))
+        (runs_on first last now (all_told id h) ((name, told_of id r) ∷ []) s.1 (now, p, refl)),
   )

@@ -17,12 +17,12 @@ last_step first last [] e r p = (first, (p.0, p.1))
 last_step first last (c ∷ cs) e r p = last_step p.0 last cs e r p.3
 
 -- the last call of a pass was a step
-pub was_step : {K : Type 0} (always_tells : K → Bool) (v w : Known DirEntry DirReply) (e : DirEntry) (r : DirReply) → Makes v e r w → IsLegal always_tells (pairs w.seen) → (old : Seen) × ((now : Seen) × Step old now e r)
-was_step always_tells v w e r makes legal =
+pub was_step : {K : Type 0} (always_tells : K → Bool) (first : Seen) (v w : Known DirEntry DirReply) (e : DirEntry) (r : DirReply) → Makes v e r w → IsLegal always_tells first (pairs w.seen) → (old : Seen) × ((now : Seen) × Step old now e r)
+was_step always_tells first v w e r makes legal =
     let x = makes.extends in
     let whole : pairs w.seen ≡ pairs (v.seen ++ x.0) ++ (e, r) ∷ [] = ap pairs x.1 ∙ map-append (λ (c : Call DirEntry DirReply). (c.entry, c.reply)) (v.seen ++ x.0) (call v.number e r ∷ []) in
-    let l = subst (IsLegal always_tells) whole legal in
-    last_step l.1.0 l.0 (pairs (v.seen ++ x.0)) e r l.1.2
+    let l = subst (IsLegal always_tells first) whole legal in
+    last_step first l.0 (pairs (v.seen ++ x.0)) e r l.1.1
 
 -- these calls have no other reply
 pub text_only : (old now : Seen) (e : DirEntry) (r : DirReply) → HasText e → Step old now e r → ((x : _) → r ≡ reply.Text x → ⊥) → ⊥

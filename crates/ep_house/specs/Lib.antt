@@ -3,4 +3,5 @@ pub mod Named
 pub mod Registry
 pub mod Told
 pub mod Pads
+pub mod Directory
 pub mod Replies

@@ -1,11 +1,12 @@
 -- Names with their cells, and what waits for a name.
-use Rattle.std.specs.Prelude.{ℕ, List, [], ◌∷◌}
+use Rattle.std.specs.Prelude.{ℕ, ◌≡◌, List, [], ◌∷◌, Result, IfOk}
 use Rattle.std.specs.declared.sync.Arc.{Arc}
 use Rattle.std.specs.declared.alloc.Global.{Global}
 use Rattle.std.specs.Arc.{arc_value}
 use Rattle.atomic_table.specs.Seated.{TableId}
 use Rattle.ep_cell.specs.declared.cell.Cell.{Cell}
-use Rattle.ep_cell.specs.Passes.{id_of}
+use Rattle.ep_cell.specs.Passes.{first_of, id_of}
+use Rattle.ep_outside.specs.declared.limits.Limits.{Limits}
 use Rattle.ep_house.specs.declared.named.Named.{Named}
 use Rattle.ep_house.specs.declared.named.Kept.{Kept}
 use Rattle.ep_house.specs.declared.named.Waiting.{Waiting}
@@ -28,3 +29,14 @@ wait_of (waiting.Shared a) = in_cell (shared_id a)
 abbrev pub waits_of : {W A : Type 0} → (W → A) → List (Kept W) → List (List ℕ × A)
 waits_of f [] = []
 waits_of f (k ∷ ks) = (k.name, f k.what) ∷ waits_of f ks
+
+module _ {M E R : Type 0} (limits_of : M → Limits) (limits : Limits) where
+  -- the machine of a cell was held to these limits as it was put in
+  abbrev pub IsWithin : Arc (Cell M E R) Global → Type 0
+  IsWithin a = limits_of (first_of (arc_value a)) ≡ limits
+
+  -- so was the one that waits, if a machine does
+  abbrev pub MayWait : {D : Type 0} → Waiting D M E R → Type 0
+  MayWait (waiting.Disk d) = Unit {0}
+  MayWait (waiting.Cell c) = limits_of (first_of c) ≡ limits
+  MayWait (waiting.Shared a) = IsWithin a

@@ -128,12 +128,22 @@ module _ {H D B : Type 0} (failed : H → ℕ) (told : H → List ℕ → Option
   Runs first [] last = first ≡ last
   Runs first (c ∷ cs) last = (mid : Register H D) × Step first c.0 c.1 mid × Runs mid cs last
 
-  -- the state is reached by these calls, from one in which no pad is open
-  abbrev pub Stands : Register H D → List (List ℕ × Answer B) → Type 0
-  Stands last h = (first : Register H D) × (first.cells ≡ []) × Runs first h last
+  -- a register as it began: no pad is open, and nothing waits
+  pub record IsFirst (first : Register H D) : Type 0 where
+    pub cells : first.cells ≡ []
+    pub waiting : first.waiting ≡ []
 
-  abbrev pub IsLegal : List (List ℕ × Answer B) → Type 0
-  IsLegal h = (last : Register H D) × Stands last h
+  -- a register that was the first as it began is the last: it has made these calls in between
+  abbrev pub Stands : Register H D → Register H D → List (List ℕ × Answer B) → Type 0
+  Stands first last h = IsFirst first × Runs first h last
+
+  -- of a register that began so, each answer is one that the calls before it allow
+  abbrev pub IsLegalFrom : Register H D → List (List ℕ × Answer B) → Type 0
+  IsLegalFrom first h = (last : Register H D) × Stands first last h
+
+  -- and of one under which so many pads may be open
+  abbrev pub IsLegal : ℕ → List (List ℕ × Answer B) → Type 0
+  IsLegal limit h = (first : Register H D) × (first.limit ≡ limit) × IsLegalFrom first h
 
 abbrev pub all_told : {C B : Type 0} → (C → TableId) → List (List ℕ × Result C (PassBad B)) → List (List ℕ × Answer B)
 all_told id h = map (λ c. (c.0, told_of id c.1)) h

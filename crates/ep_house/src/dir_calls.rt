@@ -14,7 +14,9 @@ impl<K: Keeper + Drop> DirPort for Directory<K> {
 
     type Pass = DirPass<K>;
 
-    ghost is_of = { λ directory pass. cell.IsOf directory.cell pass.pass };
+    ghost begun = { λ directory. cell.first_of directory.cell };
+
+    ghost is_of = { λ directory pass. cell.IsFrom directory.cell pass.pass };
 
     ghost known = { λ pass. cell.known pass.pass };
 

@@ -1,5 +1,8 @@
 //! The directory of a server, behind a lock.
 
+ghost use Rattle.std.specs.Prelude.{◌≡◌, IfOk};
+ghost use Rattle.ep_house.specs.Directory.{begun_of};
+
 use ep_cell::{Cell, Pass};
 use ep_groups::DirMachine;
 use ep_outside::Keeper;
@@ -26,7 +29,9 @@ pub struct DirPass<K: Keeper + Drop> {
 
 impl<K: Keeper + Drop> Directory<K> {
     /// The directory that stands in this keeper. No call is made yet.
-    pub fn open(alloc: Global, keeper: K) -> Result<Directory<K>, NoMemory> {
+    pub fn open(alloc: Global, keeper: K) -> Result<Directory<K>, NoMemory>
+        ensures begun { IfOk result (λ directory. begun_of directory ≡ record { told = K.told keeper; always_tells = K.always_tells keeper; failures = K.failures keeper; is_steady = K.is_steady keeper }) }
+    {
         match Cell::new(alloc, DirMachine::new(alloc, keeper)) {
             Ok(cell) => Ok(Directory { alloc, cell }),
             Err(refused) => Err(refused.why),

@@ -13,6 +13,8 @@ impl<D: Disk + Drop> PadOver<D> for PadMachine<D> {
 
     ghost refuses = { λ disk back why. (limits : AnyLimits) × IsRefused D.told D.failures limits disk back why };
 
+    ghost limits_of = { λ m. m.limits };
+
     ghost disk_of = { λ m. m.disk };
 
     fn open(alloc: Global, disk: D, limits: Limits) -> Result<PadMachine<D>, Refused<D, PadBad>> {

@@ -3,9 +3,10 @@
 ghost use Rattle.std.specs.Prelude.{◌≡◌, Some};
 ghost use Rattle.std.proofs.Props.{props};
 ghost use Rattle.ep_cell.specs.History.{pairs};
-ghost use Rattle.ep_cell.specs.Passes.{home_of, seen};
+ghost use Rattle.ep_cell.specs.Passes.{IsFrom, first_of, seen};
 ghost use Rattle.ep_house.specs.Register.{all_told};
 ghost use Rattle.ep_pad.specs.Halls.{cell_in};
+ghost use Rattle.std.specs.Arc.{arc_value};
 ghost use Rattle.ep_house.specs.Named.{shared_id};
 
 use crate::pad_over::PadOver;
@@ -21,6 +22,7 @@ pub struct Pads<H: Shelf + Drop, P: PadOver<H::D>> {
     pub(crate) alloc: Global,
     pub(crate) limits: Limits,
     pub(crate) registry: Cell<Registry<H, P>>,
+    ghost begun: { (first_of registry).limits ≡ limits } by { Prim.hlevel props },
 }
 
 impl<H: Shelf + Drop, P: PadOver<H::D> + Drop> Drop for Pads<H, P> {
@@ -46,6 +48,6 @@ pub struct PadPass<H: Shelf + Drop, P: PadOver<H::D>> {
     pub(crate) cell: Arc<Cell<P>, Global>,
     pub(crate) pass: Pass<P>,
     pub(crate) second: Pass<Registry<H, P>>,
-    ghost same: { home_of pass ≡ shared_id cell },
+    ghost same: { IsFrom (arc_value cell) pass } by { Prim.hlevel props },
     ghost found: { cell_in (all_told shared_id (pairs (seen second))) name ≡ Some (shared_id cell) } by { Prim.hlevel props },
 }

@@ -4,7 +4,7 @@ ghost use Rattle.std.specs.Prelude.{◌≡◌, Some, IfOk};
 ghost use Rattle.ep_cell.specs.History.{pairs};
 ghost use Rattle.ep_cell.specs.Passes.{IsFresh, Makes, Meets};
 ghost use Rattle.ep_house.specs.Register.{IsLegal};
-ghost use Rattle.ep_house.specs.Pads.{IsHallOf, IsPassOf, IsSamePad, cell_of, hall_known, known, limits_of, name_of};
+ghost use Rattle.ep_house.specs.Pads.{IsHallOf, IsPassOf, IsSamePad, begun_of, cell_of, hall_known, known, limits_of, name_of};
 ghost use Rattle.ep_pad.specs.Halls.{NotesOrNone, cell_in, told_of};
 
 use crate::pad_over::PadOver;
@@ -42,7 +42,7 @@ impl<H: Shelf + Drop, P: PadOver<H::D>> Pads<H, P> {
     pub fn hall<R: Wait>(&self, rt: &R) -> Hall<H, P>
         ensures of { IsHallOf self.now result }
         ensures fresh { IsFresh (hall_known result) }
-        ensures legal { IsLegal H.failures H.told H.D.failures H.D.told P.refuses (pairs (hall_known result).seen) }
+        ensures legal { IsLegal H.failures H.told H.D.failures H.D.told P.refuses (limits_of self.now).pads (pairs (hall_known result).seen) }
     {
         Hall {
             pass: self.registry.new_pass(rt),
@@ -58,11 +58,12 @@ impl<H: Shelf + Drop, P: PadOver<H::D>> Pads<H, P> {
     ) -> Result<PadPass<H, P>, PassBad<P::Bad>>
         requires of { IsHallOf self.now hall.old }
         ensures hall { IsHallOf self.now hall.new }
-        ensures noted { NotesOrNone (IsLegal H.failures H.told H.D.failures H.D.told P.refuses) (hall_known hall.old) pad.now (told_of cell_of result) (hall_known hall.new) }
+        ensures noted { NotesOrNone (IsLegal H.failures H.told H.D.failures H.D.told P.refuses (limits_of self.now).pads) (hall_known hall.old) pad.now (told_of cell_of result) (hall_known hall.new) }
         ensures of { IfOk result (λ pass. IsPassOf self.now pass) }
         ensures name { IfOk result (λ pass. name_of pass ≡ pad.now) }
         ensures fresh { IfOk result (λ pass. IsFresh (known pass)) }
-        ensures legal { IfOk result (λ pass. P.legal (pairs (known pass).seen)) }
+        ensures limits { IfOk result (λ pass. P.limits_of (begun_of pass) ≡ limits_of self.now) }
+        ensures legal { IfOk result (λ pass. P.legal (begun_of pass) (pairs (known pass).seen)) }
         // The name's first cell is its one cell.
         ensures one { IfOk result (λ pass. cell_in (pairs (hall_known hall.new).seen) pad.now ≡ Some (cell_of pass)) }
     {
@@ -92,7 +93,7 @@ impl<H: Shelf + Drop, P: PadOver<H::D>> Pads<H, P> {
         requires pad { name_of one.old ≡ name_of other.old }
         ensures one { IsSamePad one.old one.new }
         ensures other { IsSamePad other.old other.new }
-        ensures cell { cell_of one.new ≡ cell_of other.new }
+        ensures cell { (cell_of one.new ≡ cell_of other.new) × (begun_of one.new ≡ begun_of other.new) }
         ensures meets { Meets (known one.old) (known other.old) (known one.new) (known other.new) }
     {
         self.registry.meet(&mut one.second, &mut other.second);
@@ -106,7 +107,7 @@ impl<H: Shelf + Drop, P: PadOver<H::D>> PadPass<H, P> {
         requires allowed { P.allows entry }
         ensures pad { IsSamePad self.old self.new }
         ensures makes { Makes (known self.old) entry result (known self.new) }
-        ensures legal { P.legal (pairs (known self.new).seen) }
+        ensures legal { P.legal (begun_of self.new) (pairs (known self.new).seen) }
     {
         self.cell.call(rt, &mut self.pass, entry)
     }

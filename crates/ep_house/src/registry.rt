@@ -1,6 +1,9 @@
 //! The registry of open pads: a machine that answers a name with its cell.
 
 ghost use Rattle.std.specs.Prelude.{◌≡◌, ◌≢◌, ◌≤◌, ◌<◌, ◌∷◌, [], ◌++◌, List, ℕ, IfOk, IfErr, OnOk, OnErr, Err, vec_len, vec_capacity};
+ghost use Rattle.std.proofs.Props.{props};
+ghost use Rattle.std.specs.List.{All};
+ghost use Rattle.ep_house.specs.Named.{IsWithin, MayWait};
 
 use crate::named::{Kept, Named, Waiting, find, take_kept};
 use crate::pad_over::PadOver;
@@ -11,7 +14,7 @@ use ep_units::PadId;
 use std::alloc::Global;
 use std::sync::Arc;
 
-/// The registry. A pad that is open stays open.
+/// The registry. A pad that is open stays open. Each is held to the registry's limits as it begins.
 #[derive(Drop)]
 pub struct Registry<H: Shelf, P: PadOver<H::D>> {
     alloc: Global,
@@ -20,13 +23,15 @@ pub struct Registry<H: Shelf, P: PadOver<H::D>> {
     cells: Vec<Named<P>>,
     kept: Vec<Kept<Waiting<H::D, P>>>,
     ghost within: { vec_len cells ≤ limits.pads },
+    ghost cells_within: { All (λ n. IsWithin P.limits_of limits n.cell) cells.items } by { Prim.hlevel props },
+    ghost kept_within: { All (λ k. MayWait P.limits_of limits k.what) kept.items } by { Prim.hlevel props },
 }
 
 /// A cell that is shared, or why none.
 pub type Found<P, B> = Result<Arc<Cell<P>, Global>, PassBad<B>>;
 
 impl<H: Shelf, P: PadOver<H::D>> Registry<H, P> {
-    ghost use Rattle.ep_cell.specs.Passes.{id_of};
+    ghost use Rattle.ep_cell.specs.Passes.{first_of, id_of};
     ghost use Rattle.ep_house.specs.Register.{Comes, Keeps, MayOpen, Places, Step, found_in, in_cell, on_disk, without};
     ghost use Rattle.ep_pad.specs.Halls.{told_of};
     ghost use Rattle.ep_house.specs.Named.{shared_id, wait_of};
@@ -46,7 +51,9 @@ impl<H: Shelf, P: PadOver<H::D>> Registry<H, P> {
     }
 
     fn look_up(&mut self, name: PadId) -> Found<P, P::Bad>
-        ensures { Step H.failures H.told H.D.failures H.D.told P.refuses (register self.old) name (told_of shared_id result) (register self.new) }
+        ensures limits { self.new.limits ≡ self.old.limits }
+        ensures within { IfOk result (IsWithin P.limits_of self.old.limits) }
+        ensures step { Step H.failures H.told H.D.failures H.D.told P.refuses (register self.old) name (told_of shared_id result) (register self.new) }
     {
         if let Some(named) = find(&self.cells, &name) {
             return match Arc::try_clone(&named.cell) {
@@ -64,7 +71,9 @@ impl<H: Shelf, P: PadOver<H::D>> Registry<H, P> {
     // Opens a pad that isn't open.
     fn open_new(&mut self, name: PadId) -> Found<P, P::Bad>
         requires { MayOpen (register self.old) name }
-        ensures { Step H.failures H.told H.D.failures H.D.told P.refuses (register self.old) name (told_of shared_id result) (register self.new) }
+        ensures limits { self.new.limits ≡ self.old.limits }
+        ensures within { IfOk result (IsWithin P.limits_of self.old.limits) }
+        ensures step { Step H.failures H.told H.D.failures H.D.told P.refuses (register self.old) name (told_of shared_id result) (register self.new) }
     {
         if self.cells.reserve(1).is_err() {
             return Err(PassBad::NoMemory);
@@ -94,6 +103,7 @@ impl<H: Shelf, P: PadOver<H::D>> Registry<H, P> {
         ensures keeps { Keeps H.failures H.told (register self.old) (register self.new) name.now }
         ensures comes { IfOk result (λ w. Comes H.told H.D.failures H.D.told (found_in (register self.old).waiting name.now) self.old.shelf name.now (wait_of w)) }
         ensures taken { OnOk result ((register self.new).waiting ≡ without (register self.old).waiting name.now) }
+        ensures within { IfOk result (MayWait P.limits_of self.old.limits) }
         ensures room { OnOk result (vec_len self.new.kept < vec_capacity self.new.kept) }
         ensures refused { MayOpen (register self.old) name.now → IfErr result (λ e. Step H.failures H.told H.D.failures H.D.told P.refuses (register self.old) name.now (Err e) (register self.new)) }
     {
@@ -112,10 +122,13 @@ impl<H: Shelf, P: PadOver<H::D>> Registry<H, P> {
 
     // A cell round a pad that was just opened. The disk of one that finds no memory waits for the next pass.
     fn put(&mut self, name: PadId, pad: P) -> Found<P, P::Bad>
-        requires begun { P.stands pad [] }
+        requires begun { P.stands pad pad [] }
+        requires limits { P.limits_of pad ≡ self.old.limits }
         requires room { (vec_len self.old.cells < vec_capacity self.old.cells) × (vec_len self.old.kept < vec_capacity self.old.kept) }
         requires below { vec_len self.old.cells < self.old.limits.pads }
-        ensures { (disk : H.D) → Places (register self.old) name (on_disk disk) (told_of shared_id result) (register self.new) }
+        ensures limits { self.new.limits ≡ self.old.limits }
+        ensures within { IfOk result (IsWithin P.limits_of self.old.limits) }
+        ensures places { (disk : H.D) → Places (register self.old) name (on_disk disk) (told_of shared_id result) (register self.new) }
     {
         match Cell::new(self.alloc, pad) {
             Ok(cell) => self.share(name, cell),
@@ -134,7 +147,10 @@ impl<H: Shelf, P: PadOver<H::D>> Registry<H, P> {
     fn share(&mut self, name: PadId, cell: Cell<P>) -> Found<P, P::Bad>
         requires room { (vec_len self.old.cells < vec_capacity self.old.cells) × (vec_len self.old.kept < vec_capacity self.old.kept) }
         requires below { vec_len self.old.cells < self.old.limits.pads }
-        ensures { Places (register self.old) name (in_cell (id_of cell)) (told_of shared_id result) (register self.new) }
+        requires within { P.limits_of (first_of cell) ≡ self.old.limits }
+        ensures limits { self.new.limits ≡ self.old.limits }
+        ensures within { IfOk result (IsWithin P.limits_of self.old.limits) }
+        ensures places { Places (register self.old) name (in_cell (id_of cell)) (told_of shared_id result) (register self.new) }
     {
         match Arc::new(self.alloc, cell) {
             Ok(cell) => self.place(name, cell),
@@ -152,7 +168,10 @@ impl<H: Shelf, P: PadOver<H::D>> Registry<H, P> {
     fn place(&mut self, name: PadId, cell: Arc<Cell<P>, Global>) -> Found<P, P::Bad>
         requires room { (vec_len self.old.cells < vec_capacity self.old.cells) × (vec_len self.old.kept < vec_capacity self.old.kept) }
         requires below { vec_len self.old.cells < self.old.limits.pads }
-        ensures { Places (register self.old) name (in_cell (shared_id cell)) (told_of shared_id result) (register self.new) }
+        requires within { IsWithin P.limits_of self.old.limits cell }
+        ensures limits { self.new.limits ≡ self.old.limits }
+        ensures within { IfOk result (IsWithin P.limits_of self.old.limits) }
+        ensures places { Places (register self.old) name (in_cell (shared_id cell)) (told_of shared_id result) (register self.new) }
     {
         match Arc::try_clone(&cell) {
             Ok(theirs) => {
@@ -171,8 +190,8 @@ impl<H: Shelf, P: PadOver<H::D>> Registry<H, P> {
 }
 
 impl<H: Shelf, P: PadOver<H::D>> Machine for Registry<H, P> {
-    ghost use Rattle.ep_house.specs.Register.{IsLegal, Stands, all_told};
-    ghost use Rattle.ep_house.specs.Named.{shared_id};
+    ghost use Rattle.ep_house.specs.Register.{IsLegalFrom, Stands, all_told};
+    ghost use Rattle.ep_house.specs.Named.{IsWithin, shared_id};
     ghost use Rattle.ep_house.specs.Registry.{register};
 
     type Entry = PadId;
@@ -181,11 +200,12 @@ impl<H: Shelf, P: PadOver<H::D>> Machine for Registry<H, P> {
 
     ghost allows = { λ _. Unit {0} };
 
-    ghost stands = { λ r h. Stands H.failures H.told H.D.failures H.D.told P.refuses (register r) (all_told shared_id h) };
+    // It keeps its limits, and each cell that it answers is held to them as it begins.
+    ghost stands = { λ first r h. (r.limits ≡ first.limits) × Stands H.failures H.told H.D.failures H.D.told P.refuses (register first) (register r) (all_told shared_id h) × All (λ c. IfOk c.1 (IsWithin P.limits_of first.limits)) h };
 
-    ghost legal = { λ h. IsLegal H.failures H.told H.D.failures H.D.told P.refuses (all_told shared_id h) };
+    ghost legal = { λ first h. IsLegalFrom H.failures H.told H.D.failures H.D.told P.refuses (register first) (all_told shared_id h) × All (λ c. IfOk c.1 (IsWithin P.limits_of first.limits)) h };
 
-    ghost stands_legal = { λ r h s. (register r, s) };
+    ghost stands_legal = { λ first r h s. ((register r, s.1), s.2) };
 
     fn call(&mut self, name: PadId) -> Found<P, P::Bad> {
         self.look_up(name)

@@ -1,7 +1,8 @@
 //! Calls of the directory, by the kind of their reply.
 
-ghost use Rattle.ep_cell.specs.Passes.{IsOf, known};
+ghost use Rattle.ep_cell.specs.Passes.{IsFrom, first_of, known};
 ghost use Rattle.ep_groups.specs.Asking.{Asks};
+ghost use Rattle.ep_groups.specs.History.{IsLegal};
 ghost use Rattle.ep_house.specs.Replies.{HasGrant, HasPad, HasPads, HasSession, HasSessions, HasText, HasTexts, IsDone};
 
 use crate::directory::{DirPass, Directory};
@@ -17,10 +18,10 @@ impl<K: Keeper + Drop> Directory<K> {
         pass: &mut DirPass<K>,
         entry: DirEntry,
     ) -> Result<Units, DirBad>
-        requires of { IsOf self.now.cell pass.old.pass }
+        requires of { IsFrom self.now.cell pass.old.pass }
         requires kind { HasText entry }
-        ensures of { IsOf self.now.cell pass.new.pass }
-        ensures asks { Asks K.always_tells (known pass.old.pass) entry (DirReply.Text result) (known pass.new.pass) }
+        ensures of { IsFrom self.now.cell pass.new.pass }
+        ensures asks { Asks (IsLegal K.always_tells (first_of self.now.cell)) (known pass.old.pass) entry (DirReply.Text result) (known pass.new.pass) }
     {
         let reply = self.cell.call(rt, &mut pass.pass, entry);
         let DirReply::Text(answer) = reply else {
@@ -35,10 +36,10 @@ impl<K: Keeper + Drop> Directory<K> {
         pass: &mut DirPass<K>,
         entry: DirEntry,
     ) -> Result<Listed<Units>, DirBad>
-        requires of { IsOf self.now.cell pass.old.pass }
+        requires of { IsFrom self.now.cell pass.old.pass }
         requires kind { HasTexts entry }
-        ensures of { IsOf self.now.cell pass.new.pass }
-        ensures asks { Asks K.always_tells (known pass.old.pass) entry (DirReply.Texts result) (known pass.new.pass) }
+        ensures of { IsFrom self.now.cell pass.new.pass }
+        ensures asks { Asks (IsLegal K.always_tells (first_of self.now.cell)) (known pass.old.pass) entry (DirReply.Texts result) (known pass.new.pass) }
     {
         let reply = self.cell.call(rt, &mut pass.pass, entry);
         let DirReply::Texts(answer) = reply else {
@@ -53,10 +54,10 @@ impl<K: Keeper + Drop> Directory<K> {
         pass: &mut DirPass<K>,
         entry: DirEntry,
     ) -> Result<(), DirBad>
-        requires of { IsOf self.now.cell pass.old.pass }
+        requires of { IsFrom self.now.cell pass.old.pass }
         requires kind { IsDone entry }
-        ensures of { IsOf self.now.cell pass.new.pass }
-        ensures asks { Asks K.always_tells (known pass.old.pass) entry (DirReply.Done result) (known pass.new.pass) }
+        ensures of { IsFrom self.now.cell pass.new.pass }
+        ensures asks { Asks (IsLegal K.always_tells (first_of self.now.cell)) (known pass.old.pass) entry (DirReply.Done result) (known pass.new.pass) }
     {
         let reply = self.cell.call(rt, &mut pass.pass, entry);
         let DirReply::Done(answer) = reply else {
@@ -71,10 +72,10 @@ impl<K: Keeper + Drop> Directory<K> {
         pass: &mut DirPass<K>,
         entry: DirEntry,
     ) -> Result<PadId, DirBad>
-        requires of { IsOf self.now.cell pass.old.pass }
+        requires of { IsFrom self.now.cell pass.old.pass }
         requires kind { HasPad entry }
-        ensures of { IsOf self.now.cell pass.new.pass }
-        ensures asks { Asks K.always_tells (known pass.old.pass) entry (DirReply.Pad result) (known pass.new.pass) }
+        ensures of { IsFrom self.now.cell pass.new.pass }
+        ensures asks { Asks (IsLegal K.always_tells (first_of self.now.cell)) (known pass.old.pass) entry (DirReply.Pad result) (known pass.new.pass) }
     {
         let reply = self.cell.call(rt, &mut pass.pass, entry);
         let DirReply::Pad(answer) = reply else {
@@ -89,10 +90,10 @@ impl<K: Keeper + Drop> Directory<K> {
         pass: &mut DirPass<K>,
         entry: DirEntry,
     ) -> Result<Listed<PadId>, DirBad>
-        requires of { IsOf self.now.cell pass.old.pass }
+        requires of { IsFrom self.now.cell pass.old.pass }
         requires kind { HasPads entry }
-        ensures of { IsOf self.now.cell pass.new.pass }
-        ensures asks { Asks K.always_tells (known pass.old.pass) entry (DirReply.Pads result) (known pass.new.pass) }
+        ensures of { IsFrom self.now.cell pass.new.pass }
+        ensures asks { Asks (IsLegal K.always_tells (first_of self.now.cell)) (known pass.old.pass) entry (DirReply.Pads result) (known pass.new.pass) }
     {
         let reply = self.cell.call(rt, &mut pass.pass, entry);
         let DirReply::Pads(answer) = reply else {
@@ -107,10 +108,10 @@ impl<K: Keeper + Drop> Directory<K> {
         pass: &mut DirPass<K>,
         entry: DirEntry,
     ) -> Result<SessionInfo, DirBad>
-        requires of { IsOf self.now.cell pass.old.pass }
+        requires of { IsFrom self.now.cell pass.old.pass }
         requires kind { HasSession entry }
-        ensures of { IsOf self.now.cell pass.new.pass }
-        ensures asks { Asks K.always_tells (known pass.old.pass) entry (DirReply.Session result) (known pass.new.pass) }
+        ensures of { IsFrom self.now.cell pass.new.pass }
+        ensures asks { Asks (IsLegal K.always_tells (first_of self.now.cell)) (known pass.old.pass) entry (DirReply.Session result) (known pass.new.pass) }
     {
         let reply = self.cell.call(rt, &mut pass.pass, entry);
         let DirReply::Session(answer) = reply else {
@@ -125,10 +126,10 @@ impl<K: Keeper + Drop> Directory<K> {
         pass: &mut DirPass<K>,
         entry: DirEntry,
     ) -> Result<Listed<SessionInfo>, DirBad>
-        requires of { IsOf self.now.cell pass.old.pass }
+        requires of { IsFrom self.now.cell pass.old.pass }
         requires kind { HasSessions entry }
-        ensures of { IsOf self.now.cell pass.new.pass }
-        ensures asks { Asks K.always_tells (known pass.old.pass) entry (DirReply.Sessions result) (known pass.new.pass) }
+        ensures of { IsFrom self.now.cell pass.new.pass }
+        ensures asks { Asks (IsLegal K.always_tells (first_of self.now.cell)) (known pass.old.pass) entry (DirReply.Sessions result) (known pass.new.pass) }
     {
         let reply = self.cell.call(rt, &mut pass.pass, entry);
         let DirReply::Sessions(answer) = reply else {
@@ -143,10 +144,10 @@ impl<K: Keeper + Drop> Directory<K> {
         pass: &mut DirPass<K>,
         entry: DirEntry,
     ) -> Result<Grant, DirBad>
-        requires of { IsOf self.now.cell pass.old.pass }
+        requires of { IsFrom self.now.cell pass.old.pass }
         requires kind { HasGrant entry }
-        ensures of { IsOf self.now.cell pass.new.pass }
-        ensures asks { Asks K.always_tells (known pass.old.pass) entry (DirReply.Grant result) (known pass.new.pass) }
+        ensures of { IsFrom self.now.cell pass.new.pass }
+        ensures asks { Asks (IsLegal K.always_tells (first_of self.now.cell)) (known pass.old.pass) entry (DirReply.Grant result) (known pass.new.pass) }
     {
         let reply = self.cell.call(rt, &mut pass.pass, entry);
         let DirReply::Grant(answer) = reply else {

@@ -19,12 +19,12 @@ runs-more size st [] mid c next r step = (next, subst (λ s. IsStep size s c.ent
 runs-more size st (d ∷ ds) mid c next r step = (r.0, r.1, runs-more size r.0 ds mid c next r.2 step)
 
 module _ {D : Type 0} (told_by : D → Option Contents) (failures : D → ℕ) where
-  pub goes-on : (m new : Held D) (e : PadEntry) (r : PadReply) (h : List (PadEntry × PadReply)) → HasMade told_by failures m h
-      → Makes told_by failures m (entry_of e) (reply_of r) new → Suits e r → HasMade told_by failures new (h ++ (e, r) ∷ [])
-  goes-on m new e r h so_far makes suits = (
-    λ tell.
-        let x = so_far.0 tell in
-        let n = makes x.1 (runs-kept size x.0 (calls_of h) x.1 (first-kept x.0 x.2) x.3) x.4 in
+  pub goes-on : (begun m new : Held D) (e : PadEntry) (r : PadReply) (h : List (PadEntry × PadReply)) → HasMade told_by failures begun m h
+      → Makes told_by failures m (entry_of e) (reply_of r) new → Suits e r → HasMade told_by failures begun new (h ++ (e, r) ∷ [])
+  goes-on begun m new e r h so_far makes suits = (
+    λ told.
+        let x = so_far.0 told in
+        let n = makes x.1 (runs-kept size x.0 (calls_of h) x.1 (first-kept x.0 x.2.first) x.3) x.4 in
         let more = runs-more size x.0 (calls_of h) x.1 (record { entry = entry_of e; reply = reply_of r }) n.0 x.3 n.1 in
         (x.0, n.0, x.2, subst (λ cs. Runs size x.0 cs n.0) (sym (map-append _ h ((e, r) ∷ []))) more, n.2),
     All-push (λ (c : PadEntry × PadReply). Suits c.0 c.1) h (e, r) so_far.1 suits,

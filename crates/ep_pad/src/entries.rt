@@ -122,7 +122,7 @@ impl<D: Disk> PadMachine<D> {
 
 impl<D: Disk + Drop> Machine for PadMachine<D> {
     ghost use Rattle.ep_pad.specs.Entries.{MayAsk, entry_of};
-    ghost use Rattle.ep_pad.specs.Histories.{HasMade, IsLegalWhere};
+    ghost use Rattle.ep_pad.specs.Histories.{HasMade, IsLegalFrom};
 
     type Entry = PadEntry;
 
@@ -130,11 +130,11 @@ impl<D: Disk + Drop> Machine for PadMachine<D> {
 
     ghost allows = { λ e. MayAsk (entry_of e) };
 
-    ghost stands = { λ m h. HasMade D.told D.failures m h };
+    ghost stands = { HasMade D.told D.failures };
 
-    ghost legal = { λ h. IsLegalWhere D.told h };
+    ghost legal = { IsLegalFrom D.told D.failures };
 
-    ghost stands_legal = { λ m h made. (λ tell. let x = made.0 tell in (x.0, x.1, x.2, x.3), made.1) };
+    ghost stands_legal = { λ begun m h made. (λ told. let x = made.0 told in (x.0, x.1, x.2, x.3), made.1) };
 
     fn call(&mut self, entry: PadEntry) -> PadReply {
         self.answer(entry)

@@ -63,6 +63,7 @@ fn begin<D: Disk>(alloc: Global, file: &mut PadFile<D>, limits: Limits) -> Resul
     ensures found { (c : Contents) → D.told (disk_of file.old) ≡ Some c → IfOk result (λ _. IsLegalFile limits c.seen) }
     ensures bad { (c : Contents) (k : ℕ) → D.told (disk_of file.old) ≡ Some c → IfErr result (λ why. why ≡ PadBad.BadRecord k → IsBadAt limits c.seen k) }
     ensures alone { (k : ℕ) → IfErr result (λ why. why ≡ PadBad.BadRecord k → D.told (disk_of file.new) ≡ D.told (disk_of file.old)) }
+    ensures told { (c : Contents) → D.told (disk_of file.new) ≡ Some c → OnOk result ((d : Contents) × (D.told (disk_of file.old) ≡ Some d)) }
     ensures ready { OnOk result (IsFileReady D.told file.new) }
     ensures limit { limit_of file.new ≡ limit_of file.old }
     ensures marks { KeepsMarks D.is_steady D.stops_alone D.left (disk_of file.old) (disk_of file.new) }
@@ -114,8 +115,8 @@ impl<D: Disk> PadMachine<D> {
 
     /// Opens the pad of a disk. A refusal hands the disk back.
     pub fn open(alloc: Global, disk: D, limits: Limits) -> Result<PadMachine<D>, Refused<D, PadBad>>
-        // It has made no call yet, and is held to these limits.
-        ensures begun { IfOk result (λ m. HasMade D.told D.failures m []) }
+        // It has made no call yet since it began so, and is held to these limits.
+        ensures begun { IfOk result (λ m. HasMade D.told D.failures m m []) }
         ensures limits { IfOk result (λ m. m.limits ≡ limits) }
         // A disk that tells a legal list of records.
         ensures first { (rs : List Record) → Holds (D.told disk) rs → AreLegal limits rs

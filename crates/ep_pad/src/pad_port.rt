@@ -24,7 +24,8 @@ pub trait PadPort {
     ghost use Rattle.ep_pad.specs.declared.entries.PadEntry.TheVariants as entry;
     ghost use Rattle.ep_pad.specs.declared.entries.PadReply.{PadReply};
     ghost use Rattle.ep_pad.specs.declared.entries.PadReply.TheVariants as reply;
-    ghost use Rattle.ep_pad.specs.Histories.{IsLegalWhere};
+    ghost use Rattle.ep_pad.specs.Histories.{IsLegalFrom};
+    ghost use Rattle.ep_pad.specs.Held.{Held};
     ghost use Rattle.ep_pad.specs.Halls.{Answer, NotesOrNone, cell_in, told_of};
     ghost use Rattle.ep_pad.specs.Asking.{Asks, AsksOrLacks};
 
@@ -45,8 +46,8 @@ pub trait PadPort {
     /// The number of a hall, the names that it has seen asked for with their answers, and how many they are at least.
     ghost hall_known: { Self.Hall → Known (List ℕ) (Answer PadBad) };
 
-    /// The names that were asked for, with their answers, may be these, in this order.
-    ghost is_register: { List (List ℕ × Answer PadBad) → Type 0 };
+    /// The names that were asked for, with their answers, may be these, in this order, under such limits.
+    ghost is_register: { AnyLimits → List (List ℕ × Answer PadBad) → Type 0 };
 
     /// The pass is of this port.
     ghost is_of: { Self → Self.Pass → Type 0 };
@@ -56,6 +57,9 @@ pub trait PadPort {
 
     /// The cell of a pass's pad.
     ghost cell_of: { Self.Pass → TableId };
+
+    /// The machine of a pass's pad as it began, before any call.
+    ghost begun: { Self.Pass → Held Self.Store };
 
     /// The number of a pass, the history of its pad that it has seen, and how long that is at least.
     ghost known: { Self.Pass → Known PadEntry PadReply };
@@ -68,7 +72,7 @@ pub trait PadPort {
     fn hall<R: Wait>(&self, rt: &R) -> Self::Hall
         ensures of { is_hall self.now result }
         ensures fresh { IsFresh (hall_known result) }
-        ensures legal { is_register (pairs (hall_known result).seen) };
+        ensures legal { is_register (limits_of self.now) (pairs (hall_known result).seen) };
 
     /// A pass of a pad, which is opened where it isn't open.
     fn pass<R: Wait>(
@@ -79,11 +83,12 @@ pub trait PadPort {
     ) -> Result<Self::Pass, PassBad<PadBad>>
         requires of { is_hall self.now hall.old }
         ensures hall { is_hall self.now hall.new }
-        ensures noted { NotesOrNone is_register (hall_known hall.old) pad.now (told_of cell_of result) (hall_known hall.new) }
+        ensures noted { NotesOrNone (is_register (limits_of self.now)) (hall_known hall.old) pad.now (told_of cell_of result) (hall_known hall.new) }
         ensures of { IfOk result (λ pass. is_of self.now pass) }
         ensures name { IfOk result (λ pass. name_of pass ≡ pad.now) }
         ensures fresh { IfOk result (λ pass. IsFresh (known pass)) }
-        ensures legal { IfOk result (λ pass. IsLegalWhere Self.Store.told (pairs (known pass).seen)) }
+        ensures limits { IfOk result (λ pass. (begun pass).limits ≡ limits_of self.now) }
+        ensures legal { IfOk result (λ pass. IsLegalFrom Self.Store.told Self.Store.failures (begun pass) (pairs (known pass).seen)) }
         // The name's first cell is its one cell.
         ensures one { IfOk result (λ pass. cell_in (pairs (hall_known hall.new).seen) pad.now ≡ Some (cell_of pass)) };
 
@@ -93,9 +98,9 @@ pub trait PadPort {
         requires other { is_of self.now other.old }
         requires pad { name_of one.old ≡ name_of other.old }
         ensures of { is_of self.now one.new × is_of self.now other.new }
-        ensures one { (name_of one.new ≡ name_of one.old) × (cell_of one.new ≡ cell_of one.old) }
-        ensures other { (name_of other.new ≡ name_of other.old) × (cell_of other.new ≡ cell_of other.old) }
-        ensures cell { cell_of one.new ≡ cell_of other.new }
+        ensures one { (name_of one.new ≡ name_of one.old) × (cell_of one.new ≡ cell_of one.old) × (begun one.new ≡ begun one.old) }
+        ensures other { (name_of other.new ≡ name_of other.old) × (cell_of other.new ≡ cell_of other.old) × (begun other.new ≡ begun other.old) }
+        ensures cell { (cell_of one.new ≡ cell_of other.new) × (begun one.new ≡ begun other.new) }
         ensures meets { Meets (known one.old) (known other.old) (known one.new) (known other.new) };
 
     /// Somebody logs in with a grant. An absent pad is made, with no text, for the one who may. Moments are in
@@ -109,8 +114,8 @@ pub trait PadPort {
     ) -> Result<Welcome, PadBad>
         requires of { is_of self.now pass.old }
         ensures of { is_of self.now pass.new }
-        ensures pad { (name_of pass.new ≡ name_of pass.old) × (cell_of pass.new ≡ cell_of pass.old) }
-        ensures asks { AsksOrLacks Self.Store.told (known pass.old) (entry.Login grant.now now) reply.Welcome result (known pass.new) };
+        ensures pad { (name_of pass.new ≡ name_of pass.old) × (cell_of pass.new ≡ cell_of pass.old) × (begun pass.new ≡ begun pass.old) }
+        ensures asks { AsksOrLacks (IsLegalFrom Self.Store.told Self.Store.failures (begun pass.old)) (known pass.old) (entry.Login grant.now now) reply.Welcome result (known pass.new) };
 
     /// Somebody comes back at a revision with a grant, and may name the birth and the author.
     fn resume<R: Wait>(
@@ -125,8 +130,8 @@ pub trait PadPort {
     ) -> Result<CatchUp, PadBad>
         requires of { is_of self.now pass.old }
         ensures of { is_of self.now pass.new }
-        ensures pad { (name_of pass.new ≡ name_of pass.old) × (cell_of pass.new ≡ cell_of pass.old) }
-        ensures asks { AsksOrLacks Self.Store.told (known pass.old) (entry.Resume grant.now rev birth (option_map (λ x. x.now) author.entry) now) reply.CatchUp result (known pass.new) };
+        ensures pad { (name_of pass.new ≡ name_of pass.old) × (cell_of pass.new ≡ cell_of pass.old) × (begun pass.new ≡ begun pass.old) }
+        ensures asks { AsksOrLacks (IsLegalFrom Self.Store.told Self.Store.failures (begun pass.old)) (known pass.old) (entry.Resume grant.now rev birth (option_map (λ x. x.now) author.entry) now) reply.CatchUp result (known pass.new) };
 
     /// A session's change of a revision is committed, rebased through the later ones.
     fn accept<R: Wait>(
@@ -140,8 +145,8 @@ pub trait PadPort {
     ) -> Result<Committed, PadBad>
         requires of { is_of self.now pass.old }
         ensures of { is_of self.now pass.new }
-        ensures pad { (name_of pass.new ≡ name_of pass.old) × (cell_of pass.new ≡ cell_of pass.old) }
-        ensures asks { Asks Self.Store.told (known pass.old) (entry.Accept session base change now) (reply.Committed result) (known pass.new) };
+        ensures pad { (name_of pass.new ≡ name_of pass.old) × (cell_of pass.new ≡ cell_of pass.old) × (begun pass.new ≡ begun pass.old) }
+        ensures asks { Asks (IsLegalFrom Self.Store.told Self.Store.failures (begun pass.old)) (known pass.old) (entry.Accept session base change now) (reply.Committed result) (known pass.new) };
 
     /// The revisions behind one that a session has heard, at most 64, and what it is to be told of its edits that
     /// became nothing.
@@ -155,15 +160,15 @@ pub trait PadPort {
     ) -> Result<Fetched, PadBad>
         requires of { is_of self.now pass.old }
         ensures of { is_of self.now pass.new }
-        ensures pad { (name_of pass.new ≡ name_of pass.old) × (cell_of pass.new ≡ cell_of pass.old) }
-        ensures asks { Asks Self.Store.told (known pass.old) (entry.Fetch session from told) (reply.Fetched result) (known pass.new) };
+        ensures pad { (name_of pass.new ≡ name_of pass.old) × (cell_of pass.new ≡ cell_of pass.old) × (begun pass.new ≡ begun pass.old) }
+        ensures asks { Asks (IsLegalFrom Self.Store.told Self.Store.failures (begun pass.old)) (known pass.old) (entry.Fetch session from told) (reply.Fetched result) (known pass.new) };
 
     /// A session leaves.
     fn leave<R: Wait>(&self, rt: &R, pass: &mut Self::Pass, session: Session) -> Result<(), PadBad>
         requires of { is_of self.now pass.old }
         ensures of { is_of self.now pass.new }
-        ensures pad { (name_of pass.new ≡ name_of pass.old) × (cell_of pass.new ≡ cell_of pass.old) }
-        ensures asks { Asks Self.Store.told (known pass.old) (entry.Leave session) (reply.Done result) (known pass.new) };
+        ensures pad { (name_of pass.new ≡ name_of pass.old) × (cell_of pass.new ≡ cell_of pass.old) × (begun pass.new ≡ begun pass.old) }
+        ensures asks { Asks (IsLegalFrom Self.Store.told Self.Store.failures (begun pass.old)) (known pass.old) (entry.Leave session) (reply.Done result) (known pass.new) };
 
     /// The pad is made with a text, and its birth is answered.
     fn create<R: Wait>(
@@ -176,8 +181,8 @@ pub trait PadPort {
         requires of { is_of self.now pass.old }
         requires text { is_well_formed text.now ≡ true }
         ensures of { is_of self.now pass.new }
-        ensures pad { (name_of pass.new ≡ name_of pass.old) × (cell_of pass.new ≡ cell_of pass.old) }
-        ensures asks { AsksOrLacks Self.Store.told (known pass.old) (entry.Create text.now now) reply.Birth result (known pass.new) };
+        ensures pad { (name_of pass.new ≡ name_of pass.old) × (cell_of pass.new ≡ cell_of pass.old) × (begun pass.new ≡ begun pass.old) }
+        ensures asks { AsksOrLacks (IsLegalFrom Self.Store.told Self.Store.failures (begun pass.old)) (known pass.old) (entry.Create text.now now) reply.Birth result (known pass.new) };
 
     /// The server's text is set.
     fn set_text<R: Wait>(
@@ -190,29 +195,29 @@ pub trait PadPort {
         requires of { is_of self.now pass.old }
         requires text { is_well_formed text.now ≡ true }
         ensures of { is_of self.now pass.new }
-        ensures pad { (name_of pass.new ≡ name_of pass.old) × (cell_of pass.new ≡ cell_of pass.old) }
-        ensures asks { AsksOrLacks Self.Store.told (known pass.old) (entry.SetText text.now now) reply.Committed result (known pass.new) };
+        ensures pad { (name_of pass.new ≡ name_of pass.old) × (cell_of pass.new ≡ cell_of pass.old) × (begun pass.new ≡ begun pass.old) }
+        ensures asks { AsksOrLacks (IsLegalFrom Self.Store.told Self.Store.failures (begun pass.old)) (known pass.old) (entry.SetText text.now now) reply.Committed result (known pass.new) };
 
     /// The pad is deleted, and its sessions end.
     fn delete<R: Wait>(&self, rt: &R, pass: &mut Self::Pass, now: u64) -> Result<(), PadBad>
         requires of { is_of self.now pass.old }
         ensures of { is_of self.now pass.new }
-        ensures pad { (name_of pass.new ≡ name_of pass.old) × (cell_of pass.new ≡ cell_of pass.old) }
-        ensures asks { Asks Self.Store.told (known pass.old) (entry.Delete now) (reply.Done result) (known pass.new) };
+        ensures pad { (name_of pass.new ≡ name_of pass.old) × (cell_of pass.new ≡ cell_of pass.old) × (begun pass.new ≡ begun pass.old) }
+        ensures asks { Asks (IsLegalFrom Self.Store.told Self.Store.failures (begun pass.old)) (known pass.old) (entry.Delete now) (reply.Done result) (known pass.new) };
 
     /// Whether anybody may enter a group's pad.
     fn set_public<R: Wait>(&self, rt: &R, pass: &mut Self::Pass, on: bool) -> Result<(), PadBad>
         requires of { is_of self.now pass.old }
         ensures of { is_of self.now pass.new }
-        ensures pad { (name_of pass.new ≡ name_of pass.old) × (cell_of pass.new ≡ cell_of pass.old) }
-        ensures asks { Asks Self.Store.told (known pass.old) (entry.SetPublic on) (reply.Done result) (known pass.new) };
+        ensures pad { (name_of pass.new ≡ name_of pass.old) × (cell_of pass.new ≡ cell_of pass.old) × (begun pass.new ≡ begun pass.old) }
+        ensures asks { Asks (IsLegalFrom Self.Store.told Self.Store.failures (begun pass.old)) (known pass.old) (entry.SetPublic on) (reply.Done result) (known pass.new) };
 
     /// The document of a revision, or of the head.
     fn text<R: Wait>(&self, rt: &R, pass: &mut Self::Pass, rev: Option<u64>) -> Result<Doc, PadBad>
         requires of { is_of self.now pass.old }
         ensures of { is_of self.now pass.new }
-        ensures pad { (name_of pass.new ≡ name_of pass.old) × (cell_of pass.new ≡ cell_of pass.old) }
-        ensures asks { Asks Self.Store.told (known pass.old) (entry.Text rev) (reply.Text result) (known pass.new) };
+        ensures pad { (name_of pass.new ≡ name_of pass.old) × (cell_of pass.new ≡ cell_of pass.old) × (begun pass.new ≡ begun pass.old) }
+        ensures asks { Asks (IsLegalFrom Self.Store.told Self.Store.failures (begun pass.old)) (known pass.old) (entry.Text rev) (reply.Text result) (known pass.new) };
 
     /// The document of a revision, and so many revisions behind it, all where they are fewer.
     fn history<R: Wait>(
@@ -226,13 +231,13 @@ pub trait PadPort {
         requires of { is_of self.now pass.old }
         requires count { count ≤ 10000 }
         ensures of { is_of self.now pass.new }
-        ensures pad { (name_of pass.new ≡ name_of pass.old) × (cell_of pass.new ≡ cell_of pass.old) }
-        ensures asks { Asks Self.Store.told (known pass.old) (entry.History session start count) (reply.Piece result) (known pass.new) };
+        ensures pad { (name_of pass.new ≡ name_of pass.old) × (cell_of pass.new ≡ cell_of pass.old) × (begun pass.new ≡ begun pass.old) }
+        ensures asks { Asks (IsLegalFrom Self.Store.told Self.Store.failures (begun pass.old)) (known pass.old) (entry.History session start count) (reply.Piece result) (known pass.new) };
 
     /// The pad as a whole.
     fn status<R: Wait>(&self, rt: &R, pass: &mut Self::Pass) -> Result<PadStatus, PadBad>
         requires of { is_of self.now pass.old }
         ensures of { is_of self.now pass.new }
-        ensures pad { (name_of pass.new ≡ name_of pass.old) × (cell_of pass.new ≡ cell_of pass.old) }
-        ensures asks { Asks Self.Store.told (known pass.old) entry.Status (reply.Status result) (known pass.new) };
+        ensures pad { (name_of pass.new ≡ name_of pass.old) × (cell_of pass.new ≡ cell_of pass.old) × (begun pass.new ≡ begun pass.old) }
+        ensures asks { Asks (IsLegalFrom Self.Store.told Self.Store.failures (begun pass.old)) (known pass.old) entry.Status (reply.Status result) (known pass.new) };
 }

@@ -20,6 +20,11 @@ use Rattle.ep_pad_file.proofs.Left.{left_stands, left_mends, left_native, rests}
 
 -- ---- what is held
 
+-- what tells after an append told before
+pub told_before : (old new : Option Contents) (rec : List ℕ) (c : Contents) → held.Adds old new rec → new ≡ Some c → (d : Contents) × (old ≡ Some d)
+told_before None new rec c adds is = let e : None ≡ Some c = sym adds ∙ is in cc
+told_before (Some d) new rec c adds is = (d, refl)
+
 pub holds_adds : (old new : Option Contents) (rs : List Record) (r : Record) (rec : List ℕ) → Holds old rs → IsEncoding rec r → held.Adds old new rec → Holds new (rs ++ r ∷ [])
 holds_adds None new rs r rec h enc adds = absurd h
 holds_adds (Some c) None rs r rec h enc adds = absurd adds

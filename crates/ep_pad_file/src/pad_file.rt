@@ -219,6 +219,8 @@ impl<D: Disk> PadFile<D> {
         ensures ready { OnOk result (IsReady D.told self.new) }
         ensures adds { (rs : List Record) → Holds (D.told (disk_of self.old)) rs → OnOk result (Holds (D.told (disk_of self.new)) (rs ++ prepared ∷ [])) }
         ensures settled { (rs : List Record) → Holds (D.told (disk_of self.old)) rs → OnOk result (MayHold (D.told (disk_of self.new)) (rs ++ prepared ∷ []) []) }
+        // A disk that tells of it told before.
+        ensures told { (c : Contents) → D.told (disk_of self.new) ≡ Some c → OnOk result ((d : Contents) × (D.told (disk_of self.old) ≡ Some d)) }
         ensures grows { OnOk result ((count_of self.new ≡ count_of self.old + 1) × (length_of self.new ≡ length_with (length_of self.old) prepared)) }
 
         // A crash at any moment of the call leaves the old records, or these and the new one; which, the byte at the old

@@ -12,6 +12,8 @@ impl<H: Shelf + Drop, P: PadOver<H::D>, K: Keeper + Drop> DirPort for HouseOf<H,
 
     type Pass = DirPass<K>;
 
+    ghost begun = { λ house. ⟦<Directory<K> as DirPort>⟧.begun house.directory };
+
     ghost is_of = { λ house pass. ⟦<Directory<K> as DirPort>⟧.is_of house.directory pass };
 
     ghost known = { λ pass. ⟦<Directory<K> as DirPort>⟧.known pass };

@@ -7,21 +7,33 @@ use ep_pad::{PadBad, PadEntry, PadMachine, PadReply};
 /// A machine that is opened over such a disk, and whose calls are those of a pad.
 pub trait PadCalls<D: Disk>: PadOver<D, Bad = PadBad>
     + Machine<Entry = PadEntry, Reply = PadReply> {
-    ghost use Rattle.std.specs.Prelude.{List};
+    ghost use Rattle.std.specs.Prelude.{◌≡◌, List};
     ghost use Rattle.ep_pad.specs.declared.entries.PadEntry.{PadEntry};
     ghost use Rattle.ep_pad.specs.declared.entries.PadReply.{PadReply};
+    ghost use Rattle.ep_pad.specs.Held.{Held};
     ghost use Rattle.ep_pad.specs.Entries.{MayAsk, entry_of};
-    ghost use Rattle.ep_pad.specs.Histories.{IsLegalWhere};
+    ghost use Rattle.ep_pad.specs.Histories.{IsLegalFrom};
 
     /// What may be asked of a pad may be called.
     ghost may_ask: { (e : PadEntry) → MayAsk (entry_of e) → Self.allows e };
 
-    /// Its legal histories are those of a pad.
-    ghost is_legal: { (h : List (PadEntry × PadReply)) → Self.legal h → IsLegalWhere D.told h };
+    /// The pad's machine that it is, with the same limits.
+    ghost begun: { Self → Held D };
+
+    ghost same_limits: { (m : Self) → (begun m).limits ≡ Self.limits_of m };
+
+    /// Its legal histories are those of a pad that began so.
+    ghost is_legal: { (m : Self) (h : List (PadEntry × PadReply)) → Self.legal m h → IsLegalFrom D.told D.failures (begun m) h };
 }
 
 impl<D: Disk + Drop> PadCalls<D> for PadMachine<D> {
+    ghost use Rattle.std.proofs.Common.{refl};
+
     ghost may_ask = { λ e may. may };
 
-    ghost is_legal = { λ h legal. legal };
+    ghost begun = { λ m. m };
+
+    ghost same_limits = { λ m. refl };
+
+    ghost is_legal = { λ m h legal. legal };
 }

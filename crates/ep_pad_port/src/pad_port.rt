@@ -31,13 +31,15 @@ impl<H: Shelf + Drop, P: PadCalls<H::D>, K: Keeper + Drop> PadPort for HouseOf<H
 
     ghost hall_known = { λ hall. pads.hall_known hall };
 
-    ghost is_register = { λ names. IsLegal H.failures H.told H.D.failures H.D.told P.refuses names };
+    ghost is_register = { λ limits names. IsLegal H.failures H.told H.D.failures H.D.told P.refuses limits.pads names };
 
     ghost is_of = { λ house pass. IsPassOf house.pads pass };
 
     ghost name_of = { λ pass. pads.name_of pass };
 
     ghost cell_of = { λ pass. pads.cell_of pass };
+
+    ghost begun = { λ pass. P.begun (pads.begun_of pass) };
 
     ghost known = { λ pass. pads.known pass };
 

@@ -117,6 +117,8 @@ impl<P: PadPort + Drop, E: Ear> PadPort for Ringing<P, E> {
 
     ghost cell_of = { λ pass. P.cell_of pass.pass };
 
+    ghost begun = { λ pass. P.begun pass.pass };
+
     ghost known = { λ pass. P.known pass.pass };
 
     fn limits(&self) -> Limits {

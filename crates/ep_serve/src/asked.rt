@@ -83,7 +83,7 @@ fn carry_out<R: Wait, P: PadPort, G: DirPort, C: Clock, D: Draws>(
     key: &str,
     request: &Request,
 ) -> Result<Reply, Unanswered>
-    ensures due { IfOk result (Tells P.hall_known G.known P.known P.name_of P.cell_of (Waits (P.is_hall pads.now) P.is_register P.hall_known) (Sits (G.is_of dir.now) G.Store.always_tells G.known) (Stands (P.is_of pads.now) P.Store.told P.known) (C.may_show clock.now) key.now (D.to_come draws.old) (D.to_come draws.new) request.now) }
+    ensures due { IfOk result (Tells P.hall_known G.known P.known P.name_of P.cell_of (Waits (P.is_hall pads.now) (P.is_register (P.limits_of pads.now)) P.hall_known) (Sits (G.is_of dir.now) G.Store.always_tells (G.begun dir.now) G.known) (Stands (P.is_of pads.now) (P.limits_of pads.now) P.Store.told P.Store.failures P.begun P.known) (C.may_show clock.now) key.now (D.to_come draws.old) (D.to_come draws.new) request.now) }
     ensures status { IfOk result (λ r. IsTrue (is_status r.status)) }
     ensures undue { IfErr result (λ e. e ≡ Unanswered.NoMemory) }
 {
@@ -112,7 +112,7 @@ fn due<R: Wait, P: PadPort, G: DirPort, C: Clock, D: Draws>(
     key: &str,
     read: Result<Request, HttpBad>,
 ) -> Result<Reply, Unanswered>
-    ensures due { IfOk result (IsDue P.hall_known G.known P.known P.name_of P.cell_of (Waits (P.is_hall pads.now) P.is_register P.hall_known) (Sits (G.is_of dir.now) G.Store.always_tells G.known) (Stands (P.is_of pads.now) P.Store.told P.known) (C.may_show clock.now) key.now (D.to_come draws.old) (D.to_come draws.new) read) }
+    ensures due { IfOk result (IsDue P.hall_known G.known P.known P.name_of P.cell_of (Waits (P.is_hall pads.now) (P.is_register (P.limits_of pads.now)) P.hall_known) (Sits (G.is_of dir.now) G.Store.always_tells (G.begun dir.now) G.known) (Stands (P.is_of pads.now) (P.limits_of pads.now) P.Store.told P.Store.failures P.begun P.known) (C.may_show clock.now) key.now (D.to_come draws.old) (D.to_come draws.new) read) }
     ensures status { IfOk result (λ r. IsTrue (is_status r.status)) }
     ensures undue { IfErr result (IsUndue read) }
 {
@@ -133,7 +133,7 @@ pub fn answer_caller<R: Wait, P: PadPort, G: DirPort, A: Source + Sink, C: Clock
     draws: &mut D,
     key: &str,
 ) -> Result<(), Unanswered>
-    ensures answers { Answers P.hall_known G.known P.known P.name_of P.cell_of (Waits (P.is_hall pads.now) P.is_register P.hall_known) (Sits (G.is_of dir.now) G.Store.always_tells G.known) (Stands (P.is_of pads.now) P.Store.told P.known) (C.may_show clock.now) key.now (D.to_come draws.old) (D.to_come draws.new) A.left A.held A.failures caller.old caller.new result }
+    ensures answers { Answers P.hall_known G.known P.known P.name_of P.cell_of (Waits (P.is_hall pads.now) (P.is_register (P.limits_of pads.now)) P.hall_known) (Sits (G.is_of dir.now) G.Store.always_tells (G.begun dir.now) G.known) (Stands (P.is_of pads.now) (P.limits_of pads.now) P.Store.told P.Store.failures P.begun P.known) (C.may_show clock.now) key.now (D.to_come draws.old) (D.to_come draws.new) A.left A.held A.failures caller.old caller.new result }
     ensures later { A.failures caller.old ≤ A.failures caller.new }
 {
     let read = read_request(alloc, caller, MOST_BODY);

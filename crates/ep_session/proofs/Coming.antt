@@ -149,12 +149,12 @@ was_noted Legal cell_of h0 h1 pad r p notes is = go (subst (λ r. NotesOrNone Le
     go (inr (short, same)) = absurd (not_given (cell_of p) passbad.NoMemory short)
 
 -- a session whose grant was given
-pub came_granted : {K : Type 0} (tells : K → Bool) (shows : ℕ → Type 0) (a b : Option (List Passed)) (d0 d1 : Known DirEntry DirReply) (hall : List (Text × Answer PadBad)) (made : List (PadEntry × PadReply)) (old new : Place) (drawn : Drawn) (ready : Ready) (now : ℕ) (res : Result Grant DirBad) (grant : Grant) (e : End)
-    → own d0 ≡ [] → AsksOrLacks tells d0 (asking drawn ready now) dirs.Grant res d1 → shows now → res ≡ Ok grant → Came shows a b [] hall made old new (Enter grant ready.resume ∷ []) e → Came shows a b (own d1) hall made old new (Ask drawn ready ∷ []) e
-came_granted tells shows a b d0 d1 hall made old new drawn ready now res grant e none asks shown is p = record {
+pub came_granted : (Legal : List (DirEntry × DirReply) → Type 0) (shows : ℕ → Type 0) (a b : Option (List Passed)) (d0 d1 : Known DirEntry DirReply) (hall : List (Text × Answer PadBad)) (made : List (PadEntry × PadReply)) (old new : Place) (drawn : Drawn) (ready : Ready) (now : ℕ) (res : Result Grant DirBad) (grant : Grant) (e : End)
+    → own d0 ≡ [] → AsksOrLacks Legal d0 (asking drawn ready now) dirs.Grant res d1 → shows now → res ≡ Ok grant → Came shows a b [] hall made old new (Enter grant ready.resume ∷ []) e → Came shows a b (own d1) hall made old new (Ask drawn ready ∷ []) e
+came_granted Legal shows a b d0 d1 hall made old new drawn ready now res grant e none asks shown is p = record {
   log = Granted now (asking drawn ready now) (dirs.Grant res) ∷ p.log;
   traffic = p.traffic;
-  desk_calls = first_made d0 d1 _ none (desk_answered tells d0 d1 (asking drawn ready now) dirs.Grant res grant asks is) ∙ ap (λ l. (asking drawn ready now, dirs.Grant res) ∷ l) p.desk_calls;
+  desk_calls = first_made d0 d1 _ none (desk_answered Legal d0 d1 (asking drawn ready now) dirs.Grant res grant asks is) ∙ ap (λ l. (asking drawn ready now, dirs.Grant res) ∷ l) p.desk_calls;
   hall_calls = p.hall_calls;
   calls = p.calls;
   moments = (shown, p.moments);
@@ -163,9 +163,9 @@ came_granted tells shows a b d0 d1 hall made old new drawn ready now res grant e
   ends = p.ends;
 }
 
-pub came_denied : {K : Type 0} (tells : K → Bool) (shows : ℕ → Type 0) (a : Option (List Passed)) (d0 d1 : Known DirEntry DirReply) (at : Place) (drawn : Drawn) (ready : Ready) (now : ℕ) (res : Result Grant DirBad) (b : DirBad) (e : End)
-    → own d0 ≡ [] → AsksOrLacks tells d0 (asking drawn ready now) dirs.Grant res d1 → shows now → res ≡ Err b → e ≡ end_of_dir b → Came shows a a (own d1) [] [] at at (Ask drawn ready ∷ []) e
-came_denied tells shows a d0 d1 at drawn ready now res b e none asks shown is ended = subst (λ e. Came shows a a (own d1) [] [] at at (Ask drawn ready ∷ []) e) (sym ended) (go (desk_refused tells d0 d1 (asking drawn ready now) dirs.Grant res b asks is))
+pub came_denied : (Legal : List (DirEntry × DirReply) → Type 0) (shows : ℕ → Type 0) (a : Option (List Passed)) (d0 d1 : Known DirEntry DirReply) (at : Place) (drawn : Drawn) (ready : Ready) (now : ℕ) (res : Result Grant DirBad) (b : DirBad) (e : End)
+    → own d0 ≡ [] → AsksOrLacks Legal d0 (asking drawn ready now) dirs.Grant res d1 → shows now → res ≡ Err b → e ≡ end_of_dir b → Came shows a a (own d1) [] [] at at (Ask drawn ready ∷ []) e
+came_denied Legal shows a d0 d1 at drawn ready now res b e none asks shown is ended = subst (λ e. Came shows a a (own d1) [] [] at at (Ask drawn ready ∷ []) e) (sym ended) (go (desk_refused Legal d0 d1 (asking drawn ready now) dirs.Grant res b asks is))
   where
     go : Goes d0 d1 ((asking drawn ready now, dirs.Grant res) ∷ []) ⊎ ((b ≡ dirbad.NoMemory) × Goes d0 d1 []) → Came shows a a (own d1) [] [] at at (Ask drawn ready ∷ []) (end_of_dir b)
     go (inl goes) = record {

@@ -1,6 +1,6 @@
 -- What a pass made, by what its calls say.
 use Rattle.std.proofs.Common.{◌≡◌, List, [], ◌∷◌, ◌++◌, Option, Some, None, refl, sym, ap, ◌∙◌, subst, append_assoc, append-nil, inl, inr, rules}
-use Rattle.std.specs.Prelude.{Result, Ok, Err, ℕ, ◌⊎◌, Bool}
+use Rattle.std.specs.Prelude.{Result, Ok, Err, ℕ, ◌⊎◌}
 use Rattle.atomic_table.specs.Seated.{TableId}
 use Rattle.ep_cell.specs.declared.view.Call.{Call}
 use Rattle.ep_cell.specs.History.{call, calls_by, pairs}
@@ -10,12 +10,12 @@ use Rattle.ep_dir_records.specs.declared.dir_bad.DirBad.TheVariants as dirbad
 use Rattle.ep_groups.specs.declared.entries.DirEntry.{DirEntry}
 use Rattle.ep_groups.specs.declared.entries.DirReply.{DirReply}
 use Rattle.ep_groups.specs.Asking.{Asks as DirAsks, AsksOrLacks as DirAsksOrLacks}
-use Rattle.ep_groups.specs.History.{IsLegal}
 use Rattle.ep_outside.specs.Disk.{Contents}
 use Rattle.ep_history.specs.declared.pad_bad.PadBad.{PadBad}
 use Rattle.ep_history.specs.declared.pad_bad.PadBad.TheVariants as bad
 use Rattle.ep_pad.specs.Asking.{Asks, AsksOrLacks}
-use Rattle.ep_pad.specs.Histories.{IsLegalWhere}
+use Rattle.ep_pad.specs.Histories.{IsLegalFrom}
+use Rattle.ep_pad.specs.Held.{Held}
 use Rattle.ep_pad.specs.Halls.{Answer, Notes, NotesOrNone}
 use Rattle.ep_pad.specs.declared.entries.PadEntry.{PadEntry}
 use Rattle.ep_pad.specs.declared.entries.PadReply.{PadReply}
@@ -65,35 +65,35 @@ pub same_err : {X E : Type 0} (r : Result X E) (d e : E) → r ≡ Err d → r �
 same_err r d e h k = cc
 
 -- a call of a pad that was answered was made
-pub answered : {A D : Type 0} (told_by : D → Option Contents) (u v : Known PadEntry PadReply) (e : PadEntry) (kind : Result A PadBad → PadReply) (r : Result A PadBad) (x : A) → AsksOrLacks told_by u e kind r v → r ≡ Ok x → Goes u v ((e, kind r) ∷ [])
-answered told_by u v e kind r x (inl asks) is = goes_of u v e (kind r) asks.makes
-answered told_by u v e kind r x (inr (short, same)) is = absurd (not_ok x bad.NoMemory (sym is ∙ short))
+pub answered : {A : Type 0} (Legal : List (PadEntry × PadReply) → Type 0) (u v : Known PadEntry PadReply) (e : PadEntry) (kind : Result A PadBad → PadReply) (r : Result A PadBad) (x : A) → AsksOrLacks Legal u e kind r v → r ≡ Ok x → Goes u v ((e, kind r) ∷ [])
+answered Legal u v e kind r x (inl asks) is = goes_of u v e (kind r) asks.makes
+answered Legal u v e kind r x (inr (short, same)) is = absurd (not_ok x bad.NoMemory (sym is ∙ short))
 
 -- a call of the directory too
-pub desk_answered : {A K : Type 0} (tells : K → Bool) (u v : Known DirEntry DirReply) (e : DirEntry) (kind : Result A DirBad → DirReply) (r : Result A DirBad) (x : A) → DirAsksOrLacks tells u e kind r v → r ≡ Ok x → Goes u v ((e, kind r) ∷ [])
-desk_answered tells u v e kind r x (inl asks) is = goes_of u v e (kind r) asks.makes
-desk_answered tells u v e kind r x (inr (short, same)) is = absurd (not_ok x dirbad.NoMemory (sym is ∙ short))
+pub desk_answered : {A : Type 0} (Legal : List (DirEntry × DirReply) → Type 0) (u v : Known DirEntry DirReply) (e : DirEntry) (kind : Result A DirBad → DirReply) (r : Result A DirBad) (x : A) → DirAsksOrLacks Legal u e kind r v → r ≡ Ok x → Goes u v ((e, kind r) ∷ [])
+desk_answered Legal u v e kind r x (inl asks) is = goes_of u v e (kind r) asks.makes
+desk_answered Legal u v e kind r x (inr (short, same)) is = absurd (not_ok x dirbad.NoMemory (sym is ∙ short))
 
 -- a refusal of a pad: the call was made, or memory ran out before it
-pub refused : {A D : Type 0} (told_by : D → Option Contents) (u v : Known PadEntry PadReply) (e : PadEntry) (kind : Result A PadBad → PadReply) (r : Result A PadBad) (b : PadBad) → AsksOrLacks told_by u e kind r v → r ≡ Err b → Goes u v ((e, kind r) ∷ []) ⊎ ((b ≡ bad.NoMemory) × Goes u v [])
-refused told_by u v e kind r b (inl asks) is = inl (goes_of u v e (kind r) asks.makes)
-refused told_by u v e kind r b (inr (short, same)) is = inr (same_err r b bad.NoMemory is short, same_goes u v same)
+pub refused : {A : Type 0} (Legal : List (PadEntry × PadReply) → Type 0) (u v : Known PadEntry PadReply) (e : PadEntry) (kind : Result A PadBad → PadReply) (r : Result A PadBad) (b : PadBad) → AsksOrLacks Legal u e kind r v → r ≡ Err b → Goes u v ((e, kind r) ∷ []) ⊎ ((b ≡ bad.NoMemory) × Goes u v [])
+refused Legal u v e kind r b (inl asks) is = inl (goes_of u v e (kind r) asks.makes)
+refused Legal u v e kind r b (inr (short, same)) is = inr (same_err r b bad.NoMemory is short, same_goes u v same)
 
-pub desk_refused : {A K : Type 0} (tells : K → Bool) (u v : Known DirEntry DirReply) (e : DirEntry) (kind : Result A DirBad → DirReply) (r : Result A DirBad) (b : DirBad) → DirAsksOrLacks tells u e kind r v → r ≡ Err b → Goes u v ((e, kind r) ∷ []) ⊎ ((b ≡ dirbad.NoMemory) × Goes u v [])
-desk_refused tells u v e kind r b (inl asks) is = inl (goes_of u v e (kind r) asks.makes)
-desk_refused tells u v e kind r b (inr (short, same)) is = inr (same_err r b dirbad.NoMemory is short, same_goes u v same)
+pub desk_refused : {A : Type 0} (Legal : List (DirEntry × DirReply) → Type 0) (u v : Known DirEntry DirReply) (e : DirEntry) (kind : Result A DirBad → DirReply) (r : Result A DirBad) (b : DirBad) → DirAsksOrLacks Legal u e kind r v → r ≡ Err b → Goes u v ((e, kind r) ∷ []) ⊎ ((b ≡ dirbad.NoMemory) × Goes u v [])
+desk_refused Legal u v e kind r b (inl asks) is = inl (goes_of u v e (kind r) asks.makes)
+desk_refused Legal u v e kind r b (inr (short, same)) is = inr (same_err r b dirbad.NoMemory is short, same_goes u v same)
 
 -- what a pass of the directory has seen stays legal
-pub desk_legal : {A K : Type 0} (tells : K → Bool) (u v : Known DirEntry DirReply) (e : DirEntry) (kind : Result A DirBad → DirReply) (r : Result A DirBad) → DirAsksOrLacks tells u e kind r v → IsLegal tells (pairs u.seen) → IsLegal tells (pairs v.seen)
-desk_legal tells u v e kind r (inl asks) legal = asks.legal
-desk_legal tells u v e kind r (inr (short, same)) legal = subst (λ (w : Known DirEntry DirReply). IsLegal tells (pairs w.seen)) (sym same) legal
+pub desk_legal : {A : Type 0} (Legal : List (DirEntry × DirReply) → Type 0) (u v : Known DirEntry DirReply) (e : DirEntry) (kind : Result A DirBad → DirReply) (r : Result A DirBad) → DirAsksOrLacks Legal u e kind r v → Legal (pairs u.seen) → Legal (pairs v.seen)
+desk_legal Legal u v e kind r (inl asks) legal = asks.legal
+desk_legal Legal u v e kind r (inr (short, same)) legal = subst (λ (w : Known DirEntry DirReply). Legal (pairs w.seen)) (sym same) legal
 
 -- a call of a hall was made
 pub noted : {B : Type 0} (Legal : List (List ℕ × Answer B) → Type 0) (u v : Known (List ℕ) (Answer B)) (name : List ℕ) (r : Answer B) → Notes Legal u name r v → own v ≡ own u ++ (name, r) ∷ []
 noted Legal u v name r n = one_more u v name r n.number n.own
 
 -- a history that was legal is legal behind a call, or where memory ran out before it
-pub asked_legal : {D A : Type 0} (told_by : D → Option Contents) (v : Known PadEntry PadReply) (e : PadEntry) (kind : Result A PadBad → PadReply) (r : Result A PadBad) (w : Known PadEntry PadReply)
-    → AsksOrLacks told_by v e kind r w → IsLegalWhere told_by (pairs v.seen) → IsLegalWhere told_by (pairs w.seen)
-asked_legal told_by v e kind r w (inl a) h = a.legal
-asked_legal told_by v e kind r w (inr x) h = subst (λ (u : Known PadEntry PadReply). IsLegalWhere told_by (pairs u.seen)) (sym x.1) h
+pub asked_legal : {D A : Type 0} (told_by : D → Option Contents) (failures : D → ℕ) (begun now : Held D) (v : Known PadEntry PadReply) (e : PadEntry) (kind : Result A PadBad → PadReply) (r : Result A PadBad) (w : Known PadEntry PadReply)
+    → now ≡ begun → AsksOrLacks (IsLegalFrom told_by failures begun) v e kind r w → IsLegalFrom told_by failures begun (pairs v.seen) → IsLegalFrom told_by failures now (pairs w.seen)
+asked_legal told_by failures begun now v e kind r w same (inl a) h = subst (λ b. IsLegalFrom told_by failures b (pairs w.seen)) (sym same) a.legal
+asked_legal told_by failures begun now v e kind r w same (inr x) h = subst (λ b. IsLegalFrom told_by failures b (pairs w.seen)) (sym same) (subst (λ (u : Known PadEntry PadReply). IsLegalFrom told_by failures begun (pairs u.seen)) (sym x.1) h)

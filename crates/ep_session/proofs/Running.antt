@@ -309,9 +309,9 @@ end_short : {X : Type 0} (x : Result X End) (b : PadBad) → x ≡ Err (end_of b
 end_short x b same is = subst (λ (b : PadBad). x ≡ Err (end_of b)) is same
 
 -- a call of the pad that was refused, or for which there was no memory
-pub asked_failed : {A D X : Type 0} (told_by : D → Option Contents) (shows : ℕ → Type 0) (a : Option (List Passed)) (u v : PadView) (at : Place) (d : Duty) (e : PadEntry) (kind : Result A PadBad → PadReply) (res : Result A PadBad) (b : PadBad) (x : Result X End) (left : X → List Duty)
-    → AsksOrLacks told_by u e kind res v → res ≡ Err b → x ≡ Err (end_of b) → AllByRecursion shows (moments_of (Called e (kind res) ∷ [])) → Does at d (Called e (kind res)) (Ends at (end_of b)) → Done shows a a u v at at (d ∷ []) x left
-asked_failed {X = X} told_by shows a u v at d e kind res b x left asks is same shown does = go (refused told_by u v e kind res b asks is)
+pub asked_failed : {A X : Type 0} (Legal : List (PadEntry × PadReply) → Type 0) (shows : ℕ → Type 0) (a : Option (List Passed)) (u v : PadView) (at : Place) (d : Duty) (e : PadEntry) (kind : Result A PadBad → PadReply) (res : Result A PadBad) (b : PadBad) (x : Result X End) (left : X → List Duty)
+    → AsksOrLacks Legal u e kind res v → res ≡ Err b → x ≡ Err (end_of b) → AllByRecursion shows (moments_of (Called e (kind res) ∷ [])) → Does at d (Called e (kind res)) (Ends at (end_of b)) → Done shows a a u v at at (d ∷ []) x left
+asked_failed {X = X} Legal shows a u v at d e kind res b x left asks is same shown does = go (refused Legal u v e kind res b asks is)
   where
     go : Goes u v ((e, kind res) ∷ []) ⊎ ((b ≡ bad.NoMemory) × Goes u v []) → Done shows a a u v at at (d ∷ []) x left
     go (inl goes) = called {X = X} shows a u v at at (d ∷ []) e (kind res) x left goes shown (one_ends {X = X} at d (Called e (kind res)) (end_of b) x left same does)

@@ -3,7 +3,7 @@
 ghost use Rattle.std.specs.Prelude.{◌≡◌, ◌≤◌, ℕ, Option, List, [], ◌∷◌, IfOk};
 ghost use Rattle.ep_cell.specs.History.{pairs};
 ghost use Rattle.ep_cs.specs.Made.{AreMade};
-ghost use Rattle.ep_pad.specs.Histories.{IsLegalWhere};
+ghost use Rattle.ep_pad.specs.Histories.{IsLegalFrom};
 ghost use Rattle.ep_slider.specs.Slides.{AreSlides};
 ghost use Rattle.ep_link.specs.declared.passed.Passed.{Passed};
 ghost use Rattle.ep_session.specs.Session.{Look, Show, Take, changes_of, unfit};
@@ -37,8 +37,8 @@ fn take<R: Wait, P: PadPort, C: Clock>(
 ) -> Result<(), End>
     requires of { P.is_of pads.now pass.old }
     ensures of { P.is_of pads.now pass.new }
-    ensures pad { (P.name_of pass.new ≡ P.name_of pass.old) × (P.cell_of pass.new ≡ P.cell_of pass.old) }
-    ensures legal { IsLegalWhere P.Store.told (pairs (P.known pass.old).seen) → IsLegalWhere P.Store.told (pairs (P.known pass.new).seen) }
+    ensures pad { (P.name_of pass.new ≡ P.name_of pass.old) × (P.cell_of pass.new ≡ P.cell_of pass.old) × (P.begun pass.new ≡ P.begun pass.old) }
+    ensures legal { IsLegalFrom P.Store.told P.Store.failures (P.begun pass.old) (pairs (P.known pass.old).seen) → IsLegalFrom P.Store.told P.Store.failures (P.begun pass.new) (pairs (P.known pass.new).seen) }
     ensures done { (sent : Option (List Passed)) → Done (C.may_show clock.now) sent sent (P.known pass.old) (P.known pass.new) place.old place.new (Take base change ∷ []) result (λ _. []) }
     ensures cause { (before now : ℕ) → IsCaused result before now }
 {
@@ -141,8 +141,8 @@ fn look<R: Wait, L: Link, P: PadPort>(
     requires of { P.is_of pads.now pass.old }
     requires step { (1 ≤ asked.1) × (asked.1 ≤ 100) }
     ensures of { P.is_of pads.now pass.new }
-    ensures pad { (P.name_of pass.new ≡ P.name_of pass.old) × (P.cell_of pass.new ≡ P.cell_of pass.old) }
-    ensures legal { IsLegalWhere P.Store.told (pairs (P.known pass.old).seen) → IsLegalWhere P.Store.told (pairs (P.known pass.new).seen) }
+    ensures pad { (P.name_of pass.new ≡ P.name_of pass.old) × (P.cell_of pass.new ≡ P.cell_of pass.old) × (P.begun pass.new ≡ P.begun pass.old) }
+    ensures legal { IsLegalFrom P.Store.told P.Store.failures (P.begun pass.old) (pairs (P.known pass.old).seen) → IsLegalFrom P.Store.told P.Store.failures (P.begun pass.new) (pairs (P.known pass.new).seen) }
     ensures done { Done no_moment (L.traffic link.old) (L.traffic link.new) (P.known pass.old) (P.known pass.new) place.now place.now (Look asked.0 asked.1 asked.2 ∷ []) result (λ _. []) }
     ensures cause { IsCaused result (L.failures link.old) (L.failures link.new) }
     ensures later { L.failures link.old ≤ L.failures link.new }
@@ -166,8 +166,8 @@ pub fn act<R: Wait, L: Link, P: PadPort, C: Clock>(
     requires of { P.is_of pads.now pass.old }
     requires allowed { IsAllowed asked }
     ensures of { P.is_of pads.now pass.new }
-    ensures pad { (P.name_of pass.new ≡ P.name_of pass.old) × (P.cell_of pass.new ≡ P.cell_of pass.old) }
-    ensures legal { IsLegalWhere P.Store.told (pairs (P.known pass.old).seen) → IsLegalWhere P.Store.told (pairs (P.known pass.new).seen) }
+    ensures pad { (P.name_of pass.new ≡ P.name_of pass.old) × (P.cell_of pass.new ≡ P.cell_of pass.old) × (P.begun pass.new ≡ P.begun pass.old) }
+    ensures legal { IsLegalFrom P.Store.told P.Store.failures (P.begun pass.old) (pairs (P.known pass.old).seen) → IsLegalFrom P.Store.told P.Store.failures (P.begun pass.new) (pairs (P.known pass.new).seen) }
     ensures done { Done (C.may_show clock.now) (L.traffic link.old) (L.traffic link.new) (P.known pass.old) (P.known pass.new) place.old place.new (due_of asked) result (λ _. []) }
     ensures cause { IsCaused result (L.failures link.old) (L.failures link.new) }
     ensures later { L.failures link.old ≤ L.failures link.new }

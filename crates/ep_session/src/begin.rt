@@ -2,7 +2,7 @@
 
 ghost use Rattle.std.specs.Prelude.{◌≡◌, ◌≤◌, ℕ, [], ◌∷◌};
 ghost use Rattle.ep_cell.specs.History.{pairs};
-ghost use Rattle.ep_pad.specs.Histories.{IsLegalWhere};
+ghost use Rattle.ep_pad.specs.Histories.{IsLegalFrom};
 ghost use Rattle.ep_dir_records.specs.declared.ids.Drawn.{Drawn as AnyDrawn};
 ghost use Rattle.ep_session.specs.Session.{Ask, Fetch, Greet, Hear, Login, Rejoin, nowhere};
 ghost use Rattle.ep_session.specs.Says.{BegunAs, Done, Greets, IsCaused, OnLink};
@@ -92,8 +92,8 @@ pub fn log_in<R: Wait, L: Link, P: PadPort, C: Clock>(
 ) -> Result<(), End>
     requires of { P.is_of pads.now pass.old }
     ensures of { P.is_of pads.now pass.new }
-    ensures pad { (P.name_of pass.new ≡ P.name_of pass.old) × (P.cell_of pass.new ≡ P.cell_of pass.old) }
-    ensures legal { IsLegalWhere P.Store.told (pairs (P.known pass.old).seen) → IsLegalWhere P.Store.told (pairs (P.known pass.new).seen) }
+    ensures pad { (P.name_of pass.new ≡ P.name_of pass.old) × (P.cell_of pass.new ≡ P.cell_of pass.old) × (P.begun pass.new ≡ P.begun pass.old) }
+    ensures legal { IsLegalFrom P.Store.told P.Store.failures (P.begun pass.old) (pairs (P.known pass.old).seen) → IsLegalFrom P.Store.told P.Store.failures (P.begun pass.new) (pairs (P.known pass.new).seen) }
     ensures done { Done (C.may_show clock.now) (L.traffic link.old) (L.traffic link.new) (P.known pass.old) (P.known pass.new) place.old place.new (Login grant.now ∷ []) result (λ _. Fetch ∷ Hear ∷ []) }
     ensures cause { IsCaused result (L.failures link.old) (L.failures link.new) }
     ensures later { L.failures link.old ≤ L.failures link.new }
@@ -137,8 +137,8 @@ pub fn rejoin<R: Wait, L: Link, P: PadPort, C: Clock>(
 ) -> Result<(), End>
     requires of { P.is_of pads.now pass.old }
     ensures of { P.is_of pads.now pass.new }
-    ensures pad { (P.name_of pass.new ≡ P.name_of pass.old) × (P.cell_of pass.new ≡ P.cell_of pass.old) }
-    ensures legal { IsLegalWhere P.Store.told (pairs (P.known pass.old).seen) → IsLegalWhere P.Store.told (pairs (P.known pass.new).seen) }
+    ensures pad { (P.name_of pass.new ≡ P.name_of pass.old) × (P.cell_of pass.new ≡ P.cell_of pass.old) × (P.begun pass.new ≡ P.begun pass.old) }
+    ensures legal { IsLegalFrom P.Store.told P.Store.failures (P.begun pass.old) (pairs (P.known pass.old).seen) → IsLegalFrom P.Store.told P.Store.failures (P.begun pass.new) (pairs (P.known pass.new).seen) }
     ensures done { Done (C.may_show clock.now) (L.traffic link.old) (L.traffic link.new) (P.known pass.old) (P.known pass.new) place.old place.new (Rejoin grant.now again.now ∷ []) result (λ _. Fetch ∷ Hear ∷ []) }
     ensures cause { IsCaused result (L.failures link.old) (L.failures link.new) }
     ensures later { L.failures link.old ≤ L.failures link.new }

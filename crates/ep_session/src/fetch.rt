@@ -2,7 +2,7 @@
 
 ghost use Rattle.std.specs.Prelude.{◌≡◌, ◌≤◌, [], ◌∷◌, if◌then◌else◌};
 ghost use Rattle.ep_cell.specs.History.{pairs};
-ghost use Rattle.ep_pad.specs.Histories.{IsLegalWhere};
+ghost use Rattle.ep_pad.specs.Histories.{IsLegalFrom};
 ghost use Rattle.ep_session.specs.Session.{Fetch};
 ghost use Rattle.ep_session.specs.Says.{Done, IsCaused, no_moment};
 
@@ -25,8 +25,8 @@ fn fetch<R: Wait, L: Link, P: PadPort>(
 ) -> Result<bool, End>
     requires of { P.is_of pads.now pass.old }
     ensures of { P.is_of pads.now pass.new }
-    ensures pad { (P.name_of pass.new ≡ P.name_of pass.old) × (P.cell_of pass.new ≡ P.cell_of pass.old) }
-    ensures legal { IsLegalWhere P.Store.told (pairs (P.known pass.old).seen) → IsLegalWhere P.Store.told (pairs (P.known pass.new).seen) }
+    ensures pad { (P.name_of pass.new ≡ P.name_of pass.old) × (P.cell_of pass.new ≡ P.cell_of pass.old) × (P.begun pass.new ≡ P.begun pass.old) }
+    ensures legal { IsLegalFrom P.Store.told P.Store.failures (P.begun pass.old) (pairs (P.known pass.old).seen) → IsLegalFrom P.Store.told P.Store.failures (P.begun pass.new) (pairs (P.known pass.new).seen) }
     ensures done { Done no_moment (L.traffic link.old) (L.traffic link.new) (P.known pass.old) (P.known pass.new) place.old place.new (Fetch ∷ []) result (λ full. if full then [] else Fetch ∷ []) }
     ensures cause { IsCaused result (L.failures link.old) (L.failures link.new) }
     ensures later { L.failures link.old ≤ L.failures link.new }
@@ -48,8 +48,8 @@ pub fn catch_up<R: Wait, L: Link, P: PadPort>(
 ) -> Result<(), End>
     requires of { P.is_of pads.now pass.old }
     ensures of { P.is_of pads.now pass.new }
-    ensures pad { (P.name_of pass.new ≡ P.name_of pass.old) × (P.cell_of pass.new ≡ P.cell_of pass.old) }
-    ensures legal { IsLegalWhere P.Store.told (pairs (P.known pass.old).seen) → IsLegalWhere P.Store.told (pairs (P.known pass.new).seen) }
+    ensures pad { (P.name_of pass.new ≡ P.name_of pass.old) × (P.cell_of pass.new ≡ P.cell_of pass.old) × (P.begun pass.new ≡ P.begun pass.old) }
+    ensures legal { IsLegalFrom P.Store.told P.Store.failures (P.begun pass.old) (pairs (P.known pass.old).seen) → IsLegalFrom P.Store.told P.Store.failures (P.begun pass.new) (pairs (P.known pass.new).seen) }
     ensures done { Done no_moment (L.traffic link.old) (L.traffic link.new) (P.known pass.old) (P.known pass.new) place.old place.new (Fetch ∷ []) result (λ _. []) }
     ensures cause { IsCaused result (L.failures link.old) (L.failures link.new) }
     ensures later { L.failures link.old ≤ L.failures link.new }

@@ -3,7 +3,7 @@
 ghost use Rattle.std.specs.Prelude.{◌≡◌, ◌≤◌, [], ◌∷◌, Ok, None, IfSome};
 ghost use Rattle.ep_cell.specs.History.{pairs};
 ghost use Rattle.ep_groups.specs.History.{IsLegal};
-ghost use Rattle.ep_pad.specs.Histories.{IsLegalWhere};
+ghost use Rattle.ep_pad.specs.Histories.{IsLegalFrom};
 ghost use Rattle.ep_session.specs.Passing.{own, own_of};
 ghost use Rattle.ep_session.specs.Session.{Ask, Enter, Fetch, Hear, joining};
 ghost use Rattle.ep_session.specs.Says.{Came, Done, Ended, IsCaused, IsFault};
@@ -37,8 +37,8 @@ fn join<R: Wait, L: Link, P: PadPort, C: Clock>(
 ) -> Result<(), End>
     requires of { P.is_of pads.now pass.old }
     ensures of { P.is_of pads.now pass.new }
-    ensures pad { (P.name_of pass.new ≡ P.name_of pass.old) × (P.cell_of pass.new ≡ P.cell_of pass.old) }
-    ensures legal { IsLegalWhere P.Store.told (pairs (P.known pass.old).seen) → IsLegalWhere P.Store.told (pairs (P.known pass.new).seen) }
+    ensures pad { (P.name_of pass.new ≡ P.name_of pass.old) × (P.cell_of pass.new ≡ P.cell_of pass.old) × (P.begun pass.new ≡ P.begun pass.old) }
+    ensures legal { IsLegalFrom P.Store.told P.Store.failures (P.begun pass.old) (pairs (P.known pass.old).seen) → IsLegalFrom P.Store.told P.Store.failures (P.begun pass.new) (pairs (P.known pass.new).seen) }
     ensures done { Done (C.may_show clock.now) (L.traffic link.old) (L.traffic link.new) (P.known pass.old) (P.known pass.new) place.old place.new (joining grant.now resume ∷ []) result (λ _. Fetch ∷ Hear ∷ []) }
     ensures cause { IsCaused result (L.failures link.old) (L.failures link.new) }
     ensures later { L.failures link.old ≤ L.failures link.new }
@@ -63,8 +63,8 @@ fn begin<R: Wait, L: Link, P: PadPort, C: Clock>(
 ) -> Result<(), End>
     requires of { P.is_of pads.now pass.old }
     ensures of { P.is_of pads.now pass.new }
-    ensures pad { (P.name_of pass.new ≡ P.name_of pass.old) × (P.cell_of pass.new ≡ P.cell_of pass.old) }
-    ensures legal { IsLegalWhere P.Store.told (pairs (P.known pass.old).seen) → IsLegalWhere P.Store.told (pairs (P.known pass.new).seen) }
+    ensures pad { (P.name_of pass.new ≡ P.name_of pass.old) × (P.cell_of pass.new ≡ P.cell_of pass.old) × (P.begun pass.new ≡ P.begun pass.old) }
+    ensures legal { IsLegalFrom P.Store.told P.Store.failures (P.begun pass.old) (pairs (P.known pass.old).seen) → IsLegalFrom P.Store.told P.Store.failures (P.begun pass.new) (pairs (P.known pass.new).seen) }
     ensures done { Done (C.may_show clock.now) (L.traffic link.old) (L.traffic link.new) (P.known pass.old) (P.known pass.new) place.old place.new (joining grant.now resume ∷ []) result (λ _. Hear ∷ []) }
     ensures cause { IsCaused result (L.failures link.old) (L.failures link.new) }
     ensures later { L.failures link.old ≤ L.failures link.new }
@@ -87,8 +87,8 @@ fn on_pad<R: Wait, L: Link, P: PadPort, C: Clock>(
 ) -> End
     requires of { P.is_of pads.now pass.old }
     ensures of { P.is_of pads.now pass.new }
-    ensures pad { (P.name_of pass.new ≡ P.name_of pass.old) × (P.cell_of pass.new ≡ P.cell_of pass.old) }
-    ensures legal { IsLegalWhere P.Store.told (pairs (P.known pass.old).seen) → IsLegalWhere P.Store.told (pairs (P.known pass.new).seen) }
+    ensures pad { (P.name_of pass.new ≡ P.name_of pass.old) × (P.cell_of pass.new ≡ P.cell_of pass.old) × (P.begun pass.new ≡ P.begun pass.old) }
+    ensures legal { IsLegalFrom P.Store.told P.Store.failures (P.begun pass.old) (pairs (P.known pass.old).seen) → IsLegalFrom P.Store.told P.Store.failures (P.begun pass.new) (pairs (P.known pass.new).seen) }
     ensures done { Ended (C.may_show clock.now) (L.traffic link.old) (L.traffic link.new) (P.known pass.old) (P.known pass.new) place.old place.new (joining grant.now resume ∷ []) result }
     ensures cause { IsFault result (L.failures link.old) (L.failures link.new) }
     ensures later { L.failures link.old ≤ L.failures link.new }
@@ -118,9 +118,10 @@ pub fn in_house<R: Wait, L: Link, P: PadPort, C: Clock>(
     resume: Option<Resume>,
 ) -> Housed<P::Hall, P::Pass>
     ensures hall { P.is_hall pads.now result.hall }
-    ensures register { P.is_register (pairs (P.hall_known result.hall).seen) }
+    ensures register { P.is_register (P.limits_of pads.now) (pairs (P.hall_known result.hall).seen) }
     ensures of { IfSome result.pass (λ pass. P.is_of pads.now pass) }
-    ensures legal { IfSome result.pass (λ pass. IsLegalWhere P.Store.told (pairs (P.known pass).seen)) }
+    ensures limits { IfSome result.pass (λ pass. (P.begun pass).limits ≡ P.limits_of pads.now) }
+    ensures legal { IfSome result.pass (λ pass. IsLegalFrom P.Store.told P.Store.failures (P.begun pass) (pairs (P.known pass).seen)) }
     ensures one { IfSome result.pass (λ pass. own (P.hall_known result.hall) ≡ (P.name_of pass, Ok (P.cell_of pass)) ∷ []) }
     ensures came { Came (C.may_show clock.now) (L.traffic link.old) (L.traffic link.new) [] (own (P.hall_known result.hall)) (own_of P.known result.pass) place.old place.new (Enter grant.now resume ∷ []) result.end }
     ensures stays { result.pass ≡ None → place.new ≡ place.old }
@@ -168,11 +169,12 @@ pub fn at_desk<R: Wait, L: Link, P: PadPort, G: DirPort, C: Clock>(
     ready: Ready,
 ) -> Seated<P::Hall, P::Pass, G::Pass>
     ensures desk { IfSome result.desk (λ desk. G.is_of dir.now desk) }
-    ensures asked { IfSome result.desk (λ desk. IsLegal G.Store.always_tells (pairs (G.known desk).seen)) }
+    ensures asked { IfSome result.desk (λ desk. IsLegal G.Store.always_tells (G.begun dir.now) (pairs (G.known desk).seen)) }
     ensures hall { IfSome result.hall (λ hall. P.is_hall pads.now hall) }
-    ensures register { IfSome result.hall (λ hall. P.is_register (pairs (P.hall_known hall).seen)) }
+    ensures register { IfSome result.hall (λ hall. P.is_register (P.limits_of pads.now) (pairs (P.hall_known hall).seen)) }
     ensures of { IfSome result.pass (λ pass. P.is_of pads.now pass) }
-    ensures legal { IfSome result.pass (λ pass. IsLegalWhere P.Store.told (pairs (P.known pass).seen)) }
+    ensures limits { IfSome result.pass (λ pass. (P.begun pass).limits ≡ P.limits_of pads.now) }
+    ensures legal { IfSome result.pass (λ pass. IsLegalFrom P.Store.told P.Store.failures (P.begun pass) (pairs (P.known pass).seen)) }
     ensures one { IfSome result.pass (λ pass. own_of P.hall_known result.hall ≡ (P.name_of pass, Ok (P.cell_of pass)) ∷ []) }
     ensures came { Came (C.may_show clock.now) (L.traffic link.old) (L.traffic link.new) (own_of G.known result.desk) (own_of P.hall_known result.hall) (own_of P.known result.pass) place.old place.new (Ask drawn ready ∷ []) result.end }
     ensures stays { result.pass ≡ None → place.new ≡ place.old }

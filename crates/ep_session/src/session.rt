@@ -3,7 +3,7 @@
 ghost use Rattle.std.specs.Prelude.{◌≡◌, ◌≤◌, ◌&&◌, [], ◌∷◌, Ok, None, false, true, IfSome};
 ghost use Rattle.ep_cell.specs.History.{pairs};
 ghost use Rattle.ep_groups.specs.History.{IsLegal};
-ghost use Rattle.ep_pad.specs.Histories.{IsLegalWhere};
+ghost use Rattle.ep_pad.specs.Histories.{IsLegalFrom};
 ghost use Rattle.ep_dir_records.specs.declared.ids.Drawn.{Drawn as AnyDrawn};
 ghost use Rattle.ep_session.specs.Drawing.{DrawsAll};
 ghost use Rattle.ep_session.specs.Ends.{closing_of, leaves};
@@ -85,8 +85,8 @@ fn leave_pad<R: Wait, P: PadPort>(rt: &R, pads: &P, pass: &mut P::Pass, place: &
     requires of { P.is_of pads.now pass.old }
     ensures left { LeavesBy true place.now (own (P.known pass.old)) (own (P.known pass.new)) }
     ensures of { P.is_of pads.now pass.new }
-    ensures legal { IsLegalWhere P.Store.told (pairs (P.known pass.new).seen) }
-    ensures pad { (P.name_of pass.new ≡ P.name_of pass.old) × (P.cell_of pass.new ≡ P.cell_of pass.old) }
+    ensures legal { IsLegalFrom P.Store.told P.Store.failures (P.begun pass.new) (pairs (P.known pass.new).seen) }
+    ensures pad { (P.name_of pass.new ≡ P.name_of pass.old) × (P.cell_of pass.new ≡ P.cell_of pass.old) × (P.begun pass.new ≡ P.begun pass.old) }
 {
     drop(pads.leave(rt, pass, place.me));
 }
@@ -101,11 +101,11 @@ fn leave<R: Wait, P: PadPort>(
 ) -> Option<P::Pass>
     requires none { pass ≡ None → leaves ≡ false }
     requires of { IfSome pass (λ pass. P.is_of pads.now pass) }
-    requires legal { IfSome pass (λ pass. IsLegalWhere P.Store.told (pairs (P.known pass).seen)) }
+    requires legal { IfSome pass (λ pass. IsLegalFrom P.Store.told P.Store.failures (P.begun pass) (pairs (P.known pass).seen)) }
     ensures left { LeavesBy leaves place.now (own_of P.known pass) (own_of P.known result) }
     ensures of { IfSome result (λ pass. P.is_of pads.now pass) }
-    ensures legal { IfSome result (λ pass. IsLegalWhere P.Store.told (pairs (P.known pass).seen)) }
-    ensures pad { IfBoth pass result (λ old new. (P.name_of new ≡ P.name_of old) × (P.cell_of new ≡ P.cell_of old)) }
+    ensures legal { IfSome result (λ pass. IsLegalFrom P.Store.told P.Store.failures (P.begun pass) (pairs (P.known pass).seen)) }
+    ensures pad { IfBoth pass result (λ old new. (P.name_of new ≡ P.name_of old) × (P.cell_of new ≡ P.cell_of old) × (P.begun new ≡ P.begun old)) }
 {
     match pass {
         None => None,
@@ -132,11 +132,12 @@ fn seat<R: Wait, L: Link, P: PadPort, G: DirPort, C: Clock>(
 ) -> Seated<P::Hall, P::Pass, G::Pass>
     requires { place.old ≡ nowhere }
     ensures desk { IfSome result.desk (λ desk. G.is_of dir.now desk) }
-    ensures asked { IfSome result.desk (λ desk. IsLegal G.Store.always_tells (pairs (G.known desk).seen)) }
+    ensures asked { IfSome result.desk (λ desk. IsLegal G.Store.always_tells (G.begun dir.now) (pairs (G.known desk).seen)) }
     ensures hall { IfSome result.hall (λ hall. P.is_hall pads.now hall) }
-    ensures register { IfSome result.hall (λ hall. P.is_register (pairs (P.hall_known hall).seen)) }
+    ensures register { IfSome result.hall (λ hall. P.is_register (P.limits_of pads.now) (pairs (P.hall_known hall).seen)) }
     ensures of { IfSome result.pass (λ pass. P.is_of pads.now pass) }
-    ensures legal { IfSome result.pass (λ pass. IsLegalWhere P.Store.told (pairs (P.known pass).seen)) }
+    ensures limits { IfSome result.pass (λ pass. (P.begun pass).limits ≡ P.limits_of pads.now) }
+    ensures legal { IfSome result.pass (λ pass. IsLegalFrom P.Store.told P.Store.failures (P.begun pass) (pairs (P.known pass).seen)) }
     ensures one { IfSome result.pass (λ pass. own_of P.hall_known result.hall ≡ (P.name_of pass, Ok (P.cell_of pass)) ∷ []) }
     ensures came { Came (C.may_show clock.now) (L.traffic link.old) (L.traffic link.new) (own_of G.known result.desk) (own_of P.hall_known result.hall) (own_of P.known result.pass) nowhere place.new (Greet drawn ∷ []) result.end }
     ensures stays { result.pass ≡ None → place.new.inside ≡ false }
@@ -167,11 +168,12 @@ pub fn serve_session<R: Wait, L: Link, P: PadPort, G: DirPort, C: Clock, D: Draw
     ensures served { (drawn : AnyDrawn) × DrawsAll (D.to_come draws.old) (D.to_come draws.new) drawn.digits × Served (C.may_show clock.now) (L.traffic link.old) (L.traffic link.new) drawn (own_of G.known result.desk) (own_of P.hall_known result.hall) (own_of P.known result.pass) result.session result.start result.cursor result.taken result.end }
     // The passes are of these ports, and what they have seen is legal.
     ensures desk { IfSome result.desk (λ desk. G.is_of dir.now desk) }
-    ensures asked { IfSome result.desk (λ desk. IsLegal G.Store.always_tells (pairs (G.known desk).seen)) }
+    ensures asked { IfSome result.desk (λ desk. IsLegal G.Store.always_tells (G.begun dir.now) (pairs (G.known desk).seen)) }
     ensures hall { IfSome result.hall (λ hall. P.is_hall pads.now hall) }
-    ensures register { IfSome result.hall (λ hall. P.is_register (pairs (P.hall_known hall).seen)) }
+    ensures register { IfSome result.hall (λ hall. P.is_register (P.limits_of pads.now) (pairs (P.hall_known hall).seen)) }
     ensures of { IfSome result.pass (λ pass. P.is_of pads.now pass) }
-    ensures legal { IfSome result.pass (λ pass. IsLegalWhere P.Store.told (pairs (P.known pass).seen)) }
+    ensures limits { IfSome result.pass (λ pass. (P.begun pass).limits ≡ P.limits_of pads.now) }
+    ensures legal { IfSome result.pass (λ pass. IsLegalFrom P.Store.told P.Store.failures (P.begun pass) (pairs (P.known pass).seen)) }
     // The pass is the one that the registry gave.
     ensures one { IfSome result.pass (λ pass. own_of P.hall_known result.hall ≡ (P.name_of pass, Ok (P.cell_of pass)) ∷ []) }
     // A fault of the link is told with its count, which rose.

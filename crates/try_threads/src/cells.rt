@@ -23,11 +23,11 @@ impl Machine for Counter {
 
     ghost allows = { λ _. Unit {0} };
 
-    ghost stands = { λ _ _. Unit {0} };
+    ghost stands = { λ _ _ _. Unit {0} };
 
-    ghost legal = { λ _. Unit {0} };
+    ghost legal = { λ _ _. Unit {0} };
 
-    ghost stands_legal = { λ _ _ all. all };
+    ghost stands_legal = { λ _ _ _ all. all };
 
     fn call(&mut self, entry: u64) -> u64 {
         self.total = self.total.wrapping_add(entry);

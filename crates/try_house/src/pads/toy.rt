@@ -23,12 +23,17 @@ pub enum ToyEntry {
 /// A counter. It begins with the length of its disk, and each addition syncs twice.
 pub struct Toy<D> {
     disk: D,
+    limits: Limits,
     total: u64,
 }
 
 impl<D: Drop> Drop for Toy<D> {
     fn drop(self) {
-        let Toy { disk: _, total: _ } = self;
+        let Toy {
+            disk: _,
+            limits: _,
+            total: _,
+        } = self;
     }
 }
 
@@ -52,11 +57,11 @@ impl<D: Disk + Drop> Machine for Toy<D> {
 
     ghost allows = { λ _. Unit {0} };
 
-    ghost stands = { λ _ _. Unit {0} };
+    ghost stands = { λ _ _ _. Unit {0} };
 
-    ghost legal = { λ _. Unit {0} };
+    ghost legal = { λ _ _. Unit {0} };
 
-    ghost stands_legal = { λ _ _ all. all };
+    ghost stands_legal = { λ _ _ _ all. all };
 
     fn call(&mut self, entry: ToyEntry) -> Result<u64, ToyBad> {
         match entry {
@@ -74,11 +79,17 @@ impl<D: Disk + Drop> PadOver<D> for Toy<D> {
 
     ghost refuses = { λ disk back n. (n ≡ D.failures back) × HasRisen (D.failures disk) (D.failures back) };
 
+    ghost limits_of = { λ toy. toy.limits };
+
     ghost disk_of = { λ toy. toy.disk };
 
-    fn open(_alloc: Global, mut disk: D, _limits: Limits) -> Result<Toy<D>, Refused<D, u64>> {
+    fn open(_alloc: Global, mut disk: D, limits: Limits) -> Result<Toy<D>, Refused<D, u64>> {
         match disk.length() {
-            Ok(total) => Ok(Toy { disk, total }),
+            Ok(total) => Ok(Toy {
+                disk,
+                limits,
+                total,
+            }),
             Err(_) => Err(Refused {
                 why: disk.faults(),
                 back: disk,
@@ -87,7 +98,11 @@ impl<D: Disk + Drop> PadOver<D> for Toy<D> {
     }
 
     fn into_disk(self) -> D {
-        let Toy { disk, total: _ } = self;
+        let Toy {
+            disk,
+            limits: _,
+            total: _,
+        } = self;
         disk
     }
 }

@@ -10,7 +10,7 @@ pub returns-in-Err-clause-does : goal.returns-in-Err-clause-does
 returns-in-Err-clause-does g c = λ t. asked_err _ _ _ _ said.Done _ c.in-Err.why _ t c.in-Err.ensures.asks c.of_dir.ensures
 
 pub returns-in-Ok-clause-sits : goal.returns-in-Ok-clause-sits
-returns-in-Ok-clause-sits g c = sits_after _ _ _ _ _ _ said.Done _ c.requires.sits c.in-Ok.ensures.of c.in-Ok.ensures.asks
+returns-in-Ok-clause-sits g c = sits_after _ _ _ _ _ _ _ said.Done _ c.requires.sits c.in-Ok.ensures.of c.in-Ok.ensures.asks
 
 pub returns-in-Err-clause-sits : goal.returns-in-Err-clause-sits
-returns-in-Err-clause-sits g c = sits_after _ _ _ _ _ _ said.Done _ c.requires.sits c.in-Err.ensures.of c.in-Err.ensures.asks
+returns-in-Err-clause-sits g c = sits_after _ _ _ _ _ _ _ said.Done _ c.requires.sits c.in-Err.ensures.of c.in-Err.ensures.asks

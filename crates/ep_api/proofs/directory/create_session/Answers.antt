@@ -12,7 +12,7 @@ returns-in-Err-clause-does g c = drawn_first _ _ c.draw-drawn.result _ _ _ _ _ c
     (asked_err _ _ _ _ said.Text _ c.in-Err.why _ _ c.in-Err.ensures.asks c.of_dir.ensures)
 
 pub returns-in-Ok-clause-sits : goal.returns-in-Ok-clause-sits
-returns-in-Ok-clause-sits g c = sits_after _ _ _ _ _ _ said.Text _ c.requires.sits c.in-Ok.ensures.of c.in-Ok.ensures.asks
+returns-in-Ok-clause-sits g c = sits_after _ _ _ _ _ _ _ said.Text _ c.requires.sits c.in-Ok.ensures.of c.in-Ok.ensures.asks
 
 pub returns-in-Err-clause-sits : goal.returns-in-Err-clause-sits
-returns-in-Err-clause-sits g c = sits_after _ _ _ _ _ _ said.Text _ c.requires.sits c.in-Err.ensures.of c.in-Err.ensures.asks
+returns-in-Err-clause-sits g c = sits_after _ _ _ _ _ _ _ said.Text _ c.requires.sits c.in-Err.ensures.of c.in-Err.ensures.asks

@@ -10,10 +10,10 @@ returns-in_err-pass-clause-visits g c =
     rw (p.1, p.2) (not_visited g.P.PadPort.known g.P.PadPort.name_of g.P.PadPort.cell_of _ _ _ _ _ _ _ _ _ c.in_err-pass.ensures.none c.in_err-pass.ensures.same)
 
 pub returns-in_err-pass-clause-stand : goal.returns-in_err-pass-clause-stand
-returns-in_err-pass-clause-stand g c = stand_same _ _ _ _ _ c.requires.stand c.in_err-pass.ensures.same
+returns-in_err-pass-clause-stand g c = stand_same _ _ _ _ _ _ _ _ c.requires.stand c.in_err-pass.ensures.same
 
 pub returns-clause-stand : goal.returns-clause-stand
-returns-clause-stand g c = stand_after _ _ _ _ _ _ _ replied.Done c.in_ok-pass.pass _ _ c.requires.stand c.in_ok-pass.ensures.same c.in_ok-pass.ensures.stands c.set_public-told.ensures.of (inl c.set_public-told.ensures.asks) c.push_reserved.ensures.items
+returns-clause-stand g c = stand_after _ _ _ _ _ _ _ _ _ _ replied.Done c.in_ok-pass.pass _ _ c.requires.stand c.in_ok-pass.ensures.same c.in_ok-pass.ensures.stands c.set_public-told.ensures.of c.set_public-told.ensures.pad.2 (inl c.set_public-told.ensures.asks) c.push_reserved.ensures.items
 
 pub returns-clause-visits : goal.returns-clause-visits
 returns-clause-visits g c = visited g.P.PadPort.known g.P.PadPort.name_of g.P.PadPort.cell_of _ _ _ _ _ _ _ _ replied.Done _ c.in_ok-pass.pass _ c.set_public-told.result _ c.in_ok-pass.ensures.enters c.in_ok-pass.ensures.same c.set_public-told.ensures.pad (inl c.set_public-told.ensures.asks) c.push_reserved.ensures.items c.answered.ensures refl

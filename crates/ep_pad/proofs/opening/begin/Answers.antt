@@ -89,3 +89,8 @@ returns-in_err-append-clause-refused g c =
     let earlier = c.in_ok-pad.ensures.later in
     let still = c.in_ok-prepared.ensures.failures in
     rw (p.1, p.2) (later-refused _ _ _ _ (omega (arith, earlier, still)) (append-refused _ _ _ _ c.in_err-append.ensures.refused))
+
+pub returns-clause-told : goal.returns-clause-told
+returns-clause-told g c k told =
+    let before = c.in_ok-append.ensures.told k told in
+    (before.0, sym (c.in_ok-prepared.ensures.told ∙ c.in_ok-pad.ensures.told) ∙ before.1)

@@ -1,5 +1,6 @@
 use Rattle.std.proofs.Common.{refl, sym, ap, subst, [], ◌∷◌}
 use Rattle.ep_pad.specs.Asking.{AsksOrLacks}
+use Rattle.ep_pad.specs.Histories.{IsLegalFrom}
 use Rattle.ep_pad.specs.declared.entries.PadEntry.TheVariants as entry
 use Rattle.ep_pad.specs.declared.entries.PadReply.TheVariants as reply
 use Rattle.ep_wire_words.specs.declared.server.ServerMsg.TheVariants as msg
@@ -15,8 +16,8 @@ returns-in_err-caught-clause-done g c =
     let grant = c.args.grant.now in
     let u = g.P.PadPort.known c.args.pass.now in
     let v = g.P.PadPort.known c.resume.new.pass in
-    asked_failed g.P.Store.Disk.told (g.C.Clock.may_show c.args.clock.now) (g.L.Link.traffic c.args.link.now) u v at (Rejoin grant a) (entry.Resume grant a.rev a.birth a.author c.now_ms.result) (λ r. reply.CatchUp r) c.resume.result c.in_err-caught.field-0.0 c.from_residual.result (λ _. Fetch ∷ Hear ∷ [])
-    (subst (λ who. AsksOrLacks g.P.Store.Disk.told u (entry.Resume grant a.rev a.birth who c.now_ms.result) (λ r. reply.CatchUp r) c.resume.result v) c.as_ref.ensures.value c.resume.ensures.asks)
+    asked_failed (IsLegalFrom g.P.Store.Disk.told g.P.Store.Device.failures (g.P.PadPort.begun c.args.pass.now)) (g.C.Clock.may_show c.args.clock.now) (g.L.Link.traffic c.args.link.now) u v at (Rejoin grant a) (entry.Resume grant a.rev a.birth a.author c.now_ms.result) (λ r. reply.CatchUp r) c.resume.result c.in_err-caught.field-0.0 c.from_residual.result (λ _. Fetch ∷ Hear ∷ [])
+    (subst (λ who. AsksOrLacks (IsLegalFrom g.P.Store.Disk.told g.P.Store.Device.failures (g.P.PadPort.begun c.args.pass.now)) u (entry.Resume grant a.rev a.birth who c.now_ms.result) (λ r. reply.CatchUp r) c.resume.result v) c.as_ref.ensures.value c.resume.ensures.asks)
     c.in_err-caught.was (err_is _ _ c.from_residual.ensures.1) (c.now_ms.ensures, tt)
     (c.now_ms.result, c.resume.result, refl, sym (ap (rejoined at a.rev) c.in_err-caught.was))
 
@@ -30,8 +31,8 @@ returns-then-again-caught-clause-done g c =
     let e = entry.Resume grant a.rev a.birth a.author c.now_ms.result in
     let w = c.in_ok-caught.caught in
     called {X = Unit {0}} (g.C.Clock.may_show c.args.clock.now) (g.L.Link.traffic c.args.link.now) u v at (rejoin_place a.rev w) (Rejoin grant a ∷ []) e (reply.CatchUp c.resume.result) _ (λ _. Fetch ∷ Hear ∷ [])
-    (answered g.P.Store.Disk.told u v e (λ r. reply.CatchUp r) c.resume.result w
-    (subst (λ who. AsksOrLacks g.P.Store.Disk.told u (entry.Resume grant a.rev a.birth who c.now_ms.result) (λ r. reply.CatchUp r) c.resume.result v) c.as_ref.ensures.value c.resume.ensures.asks) c.in_ok-caught.was)
+    (answered (IsLegalFrom g.P.Store.Disk.told g.P.Store.Device.failures (g.P.PadPort.begun c.args.pass.now)) u v e (λ r. reply.CatchUp r) c.resume.result w
+    (subst (λ who. AsksOrLacks (IsLegalFrom g.P.Store.Disk.told g.P.Store.Device.failures (g.P.PadPort.begun c.args.pass.now)) u (entry.Resume grant a.rev a.birth who c.now_ms.result) (λ r. reply.CatchUp r) c.resume.result v) c.as_ref.ensures.value c.resume.ensures.asks) c.in_ok-caught.was)
     (c.now_ms.ensures, tt)
     (one_then at (rejoin_place a.rev w) (Rejoin grant a) (Called e (reply.CatchUp c.resume.result)) (Fetch ∷ Hear ∷ []) (tt {0}) (λ _. Fetch ∷ Hear ∷ [])
     (c.now_ms.result, c.resume.result, refl, rejoined_some at a.rev w c.resume.result c.in_ok-caught.was (other_false a.rev w.head c.if-again-caught.true)) refl)
@@ -48,6 +49,6 @@ returns-clause-done g c =
     let w = c.in_ok-caught.caught in
     called_say (g.C.Clock.may_show c.args.clock.now) (t c.args.link.now) (t c.say.new.link) u v at (rejoin_place a.rev w) (Rejoin grant a) e (reply.CatchUp c.resume.result) (msg.ReconnectNone w.session w.birth w.head w.head) c.say.result (Fetch ∷ Hear ∷ [])
     (c.now_ms.result, c.resume.result, refl, rejoined_none at a.rev w c.resume.result c.in_ok-caught.was (same_true a.rev w.head c.if-again-caught.false))
-    (answered g.P.Store.Disk.told u v e (λ r. reply.CatchUp r) c.resume.result w
-    (subst (λ who. AsksOrLacks g.P.Store.Disk.told u (entry.Resume grant a.rev a.birth who c.now_ms.result) (λ r. reply.CatchUp r) c.resume.result v) c.as_ref.ensures.value c.resume.ensures.asks) c.in_ok-caught.was)
+    (answered (IsLegalFrom g.P.Store.Disk.told g.P.Store.Device.failures (g.P.PadPort.begun c.args.pass.now)) u v e (λ r. reply.CatchUp r) c.resume.result w
+    (subst (λ who. AsksOrLacks (IsLegalFrom g.P.Store.Disk.told g.P.Store.Device.failures (g.P.PadPort.begun c.args.pass.now)) u (entry.Resume grant a.rev a.birth who c.now_ms.result) (λ r. reply.CatchUp r) c.resume.result v) c.as_ref.ensures.value c.resume.ensures.asks) c.in_ok-caught.was)
     (c.now_ms.ensures, tt) c.say.ensures.sent

@@ -27,7 +27,7 @@ returns-then-branch-clause-done g c =
     (fetch_on (t c.args.link.now) (t l.link) (t n.link) (p c.args.pass.now) (p l.pass) (p n.pass) c.args.place.now l.place n.place (Ok full) l.invariant.done c.in_ok-fetch.ensures.done)
 
 pub fetches-init : goal.fetches-init
-fetches-init g c = record { next = tt; finite = tt; done = nothing_yet no_moment (g.L.Link.traffic c.args.link.now) (g.P.PadPort.known c.args.pass.now) c.args.place.now (Fetch ∷ []); of = c.requires.of; pad = (refl, refl); legal = λ h. h; later = omega arith }
+fetches-init g c = record { next = tt; finite = tt; done = nothing_yet no_moment (g.L.Link.traffic c.args.link.now) (g.P.PadPort.known c.args.pass.now) c.args.place.now (Fetch ∷ []); of = c.requires.of; pad = (refl, refl, refl); legal = λ h. h; later = omega arith }
 
 pub fetches-preserved : goal.fetches-preserved
 fetches-preserved g c =
@@ -43,7 +43,7 @@ fetches-preserved g c =
           (ap (λ b. (if b then [] else (Fetch ∷ [])) ++ []) c.if-branch.false)
           (fetch_on (t c.args.link.now) (t l.link) (t n.link) (p c.args.pass.now) (p l.pass) (p n.pass) c.args.place.now l.place n.place (Ok full) l.invariant.done c.in_ok-fetch.ensures.done);
       of = c.fetch.ensures.of;
-      pad = (c.fetch.ensures.pad.0 ∙ l.invariant.pad.0, c.fetch.ensures.pad.1 ∙ l.invariant.pad.1);
+      pad = (c.fetch.ensures.pad.0 ∙ l.invariant.pad.0, c.fetch.ensures.pad.1 ∙ l.invariant.pad.1, c.fetch.ensures.pad.2 ∙ l.invariant.pad.2);
       legal = λ h. c.fetch.ensures.legal (l.invariant.legal h);
       later = omega (arith, l.invariant.later, c.fetch.ensures.later);
     }

@@ -2,7 +2,7 @@ use Rattle.std.proofs.Common.{◌≡◌, ◌≤◌, [], ◌∷◌}
 use Rattle.ep_session.specs.Session.{Fetch}
 use Rattle.ep_session.specs.Says.{no_moment}
 use Rattle.ep_cell.specs.History.{pairs}
-use Rattle.ep_pad.specs.Histories.{IsLegalWhere}
+use Rattle.ep_pad.specs.Histories.{IsLegalFrom}
 use Rattle.ep_session.proofs.Running.{SoFar}
 use Rattle.ep_session.proofs.fetch.catch_up.Given as goal
 
@@ -12,7 +12,7 @@ invariant-fetches g l = record {
   finite : (goal.iterator-fetches g).is_finite l.iterator';
   done : SoFar no_moment (g.L.Link.traffic l.initial.link) (g.L.Link.traffic l.link) (g.P.PadPort.known l.initial.pass) (g.P.PadPort.known l.pass) l.initial.place l.place (Fetch ∷ []) (Fetch ∷ []);
   of : g.P.PadPort.is_of l.pads l.pass;
-  pad : (g.P.PadPort.name_of l.pass ≡ g.P.PadPort.name_of l.initial.pass) × (g.P.PadPort.cell_of l.pass ≡ g.P.PadPort.cell_of l.initial.pass);
-  legal : IsLegalWhere g.P.Store.Disk.told (pairs (g.P.PadPort.known l.initial.pass).seen) → IsLegalWhere g.P.Store.Disk.told (pairs (g.P.PadPort.known l.pass).seen);
+  pad : (g.P.PadPort.name_of l.pass ≡ g.P.PadPort.name_of l.initial.pass) × (g.P.PadPort.cell_of l.pass ≡ g.P.PadPort.cell_of l.initial.pass) × (g.P.PadPort.begun l.pass ≡ g.P.PadPort.begun l.initial.pass);
+  legal : IsLegalFrom g.P.Store.Disk.told g.P.Store.Device.failures (g.P.PadPort.begun l.initial.pass) (pairs (g.P.PadPort.known l.initial.pass).seen) → IsLegalFrom g.P.Store.Disk.told g.P.Store.Device.failures (g.P.PadPort.begun l.pass) (pairs (g.P.PadPort.known l.pass).seen);
   later : g.L.Device.failures l.initial.link ≤ g.L.Device.failures l.link;
 }

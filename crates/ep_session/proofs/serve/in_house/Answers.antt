@@ -9,10 +9,10 @@ returns-in-Ok-clause-came g c =
     let h = g.P.PadPort.hall_known in
     let n = c.on_pad-end.new in
     came_in (g.C.Clock.may_show c.args.clock.now) (t c.args.link.now) (t n.link) (h c.hall-hall.result) (h c.pass.new.hall) (p c.in-Ok.pass) (p n.pass) c.args.place.now n.place c.args.grant.now c.args.resume (g.P.PadPort.cell_of c.in-Ok.pass) c.on_pad-end.result
-    (fresh_own _ c.hall-hall.ensures.fresh) (was_noted g.P.PadPort.is_register g.P.PadPort.cell_of (h c.hall-hall.result) (h c.pass.new.hall) c.args.grant.now.pad c.pass.result c.in-Ok.pass c.pass.ensures.noted c.in-Ok.is) (fresh_own _ c.in-Ok.ensures.fresh) c.on_pad-end.ensures.done
+    (fresh_own _ c.hall-hall.ensures.fresh) (was_noted (g.P.PadPort.is_register (g.P.PadPort.limits_of c.args.pads.now)) g.P.PadPort.cell_of (h c.hall-hall.result) (h c.pass.new.hall) c.args.grant.now.pad c.pass.result c.in-Ok.pass c.pass.ensures.noted c.in-Ok.is) (fresh_own _ c.in-Ok.ensures.fresh) c.on_pad-end.ensures.done
 
 pub returns-in-Err-clause-came : goal.returns-in-Err-clause-came
 returns-in-Err-clause-came g c =
     let h = g.P.PadPort.hall_known in
-    came_refused g.P.PadPort.is_register g.P.PadPort.cell_of (g.C.Clock.may_show c.args.clock.now) (g.L.Link.traffic c.args.link.now) (h c.hall-hall.result) (h c.pass.new.hall) c.args.place.now c.args.grant.now c.args.resume c.pass.result c.in-Err.bad c.from.result
+    came_refused (g.P.PadPort.is_register (g.P.PadPort.limits_of c.args.pads.now)) g.P.PadPort.cell_of (g.C.Clock.may_show c.args.clock.now) (g.L.Link.traffic c.args.link.now) (h c.hall-hall.result) (h c.pass.new.hall) c.args.place.now c.args.grant.now c.args.resume c.pass.result c.in-Err.bad c.from.result
     (fresh_own _ c.hall-hall.ensures.fresh) c.pass.ensures.noted c.in-Err.is c.from.ensures

@@ -6,7 +6,7 @@ use Rattle.ep_cell.proofs.cell.Cell.close.Goals as goal
 
 pub returns : goal.returns
 returns g c =
-    let l = closes g.M.Machine.stands g.M.Machine.legal c.gather-seat.result.me c.take.new.seat.me c.exchange-held.result c.in-Some.machine c.take.ensures.taken c.exchange-held.ensures.2 c.in-Some.is in
+    let l = closes g.M.Machine.stands g.M.Machine.legal c.gather-seat.result.me c.take.new.seat.me c.exchange-held.result c.in-Some.machine _ c.gather-seat.ensures.begun c.take.ensures.taken c.exchange-held.ensures.2 c.in-Some.is in
     record {
       stands = (
         c.take.new.seat.me.0.seen,

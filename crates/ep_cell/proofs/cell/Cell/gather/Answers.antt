@@ -12,6 +12,7 @@ loop-pass-preserved g c =
       c.join.ensures.idle.0,
       i.3 ∙ (ap (λ l. c.loop-pass.yielded ++ l) c.in-Some.ensures.steps.0 ∙ sym (append_assoc c.loop-pass.yielded (c.in-Some.pass ∷ []) c.next.new.self.rest.items)),
       All-push (λ p. StartsWith c.join.new.seat.me.0.seen p.seat.me.0.seen) c.loop-pass.yielded c.in-Some.pass (λ k d lt. starts_on _ _ _ c.join.ensures.begins.0 (i.4 k d lt)) c.join.ensures.begins.1,
+      c.join.ensures.begun ∙ i.5,
     )
 
 pub returns-clause-begins : goal.returns-clause-begins

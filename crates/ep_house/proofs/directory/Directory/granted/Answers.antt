@@ -4,5 +4,5 @@ use Rattle.ep_house.proofs.directory.Directory.granted.Goals as goal
 
 pub unreachable-requires : goal.unreachable-requires
 unreachable-requires g c =
-    let s = was_step g.K.Keeper.always_tells (known c.args.pass.now.pass) (known c.call-reply.new.pass) c.args.entry c.call-reply.result c.call-reply.ensures.makes c.call-reply.ensures.legal in
+    let s = was_step g.K.Keeper.always_tells _ (known c.args.pass.now.pass) (known c.call-reply.new.pass) c.args.entry c.call-reply.result c.call-reply.ensures.makes c.call-reply.ensures.legal in
     granted_only s.0 s.1.0 c.args.entry c.call-reply.result c.requires.kind s.1.1 c.in_default.not-Grant

@@ -13,12 +13,12 @@ meet-requires-2-clause-other g c =
     let other = c.args.other.now in
     let m = c.meet.ensures.meets in
     let same = one_table shared_id (seen c.meet.new.one) (seen one.second) (seen other.second) one.name other.name (shared_id one.cell) (shared_id other.cell) c.requires.pad m.begins_one m.begins_other one.found other.found in
-    other.same ∙ (sym same ∙ ap id_of (sym c.deref.ensures))
+    other.same.0 ∙ (sym same ∙ ap id_of (sym c.deref.ensures))
 
 pub invariant_of-one : goal.invariant_of-one
 invariant_of-one g c =
     let one = c.args.one.now in
-    record { same = c.meet-2.ensures.one ∙ ap id_of c.deref.ensures; found = found_on shared_id (seen c.meet.new.one) (seen one.second) one.name (shared_id one.cell) c.meet.ensures.meets.begins_one one.found }
+    record { same = (c.meet-2.ensures.one ∙ ap id_of c.deref.ensures, c.meet-2.ensures.first.0 ∙ one.same.1); found = found_on shared_id (seen c.meet.new.one) (seen one.second) one.name (shared_id one.cell) c.meet.ensures.meets.begins_one one.found }
 
 pub invariant_of-other : goal.invariant_of-other
 invariant_of-other g c =
@@ -27,6 +27,6 @@ invariant_of-other g c =
     let m = c.meet.ensures.meets in
     let same = one_table shared_id (seen c.meet.new.one) (seen one.second) (seen other.second) one.name other.name (shared_id one.cell) (shared_id other.cell) c.requires.pad m.begins_one m.begins_other one.found other.found in
     record {
-      same = c.meet-2.ensures.other ∙ (ap id_of c.deref.ensures ∙ same);
+      same = (c.meet-2.ensures.other ∙ (ap id_of c.deref.ensures ∙ same), c.meet-2.ensures.first.1 ∙ other.same.1);
       found = ap (λ l. cell_in (all_told shared_id (pairs l)) other.name) m.same ∙ found_on shared_id (seen c.meet.new.one) (seen other.second) other.name (shared_id other.cell) m.begins_other other.found;
     }

@@ -1,6 +1,10 @@
-use Rattle.std.proofs.Common.{ap, refl}
-use Rattle.ep_house.specs.Registry.{register}
+use Rattle.std.proofs.Common.{ap, refl, [], All}
+use Rattle.std.specs.Prelude.{IfOk}
+use Rattle.std.proofs.lemmas.List.Elements.{All-nil}
+use Rattle.ep_house.specs.Named.{IsWithin}
 use Rattle.ep_house.proofs.pads.Pads.open.Goals as goal
 
 pub new-requires-2 : goal.new-requires-2
-new-requires-2 g c = record { begun = (register c.new.result, ap (λ s. s.cells) c.new.ensures.begun, refl) }
+new-requires-2 g c = record {
+  begun = (refl, (record { cells = ap (λ s. s.cells) c.new.ensures.begun; waiting = ap (λ s. s.waiting) c.new.ensures.begun }, refl), All-nil (λ x. IfOk x.1 (IsWithin g.P.PadOver.limits_of c.new.result.limits)));
+}

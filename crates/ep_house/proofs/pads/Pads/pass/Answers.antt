@@ -1,8 +1,9 @@
 use Rattle.std.proofs.Common.{◌∙◌, ap, sym, subst, refl, inl, Ok, Err}
 use Rattle.ep_cell.specs.History.{pairs}
-use Rattle.ep_cell.specs.Passes.{id_of, known, seen}
+use Rattle.ep_cell.specs.Passes.{first, first_of, id_of, known, seen}
 use Rattle.ep_house.specs.Register.{IsLegal, all_told}
 use Rattle.ep_house.specs.Named.{shared_id}
+use Rattle.ep_house.specs.Registry.{register}
 use Rattle.ep_pad.specs.Halls.{Notes, cell_in}
 use Rattle.ep_house.proofs.Halls.{answers_told, answered, hall_leads, notes, told}
 use Rattle.ep_house.proofs.pads.Pads.pass.Goals as goal
@@ -14,9 +15,10 @@ returns-in-Err-clause-noted g c =
     let v = known c.meet.new.one in
     let w = known c.call.new.pass in
     let asked = c.in-Ok-Ok.asked in
-    let Legal = IsLegal g.H.Device.failures g.H.Shelf.told g.H.D.Device.failures g.H.D.Disk.told g.P.PadOver.refuses in
+    let Legal = IsLegal g.H.Device.failures g.H.Shelf.told g.H.D.Device.failures g.H.D.Disk.told g.P.PadOver.refuses c.args.self.now.limits.pads in
+    let within = ap (λ r. r.limits.pads) (c.call.ensures.first ∙ (c.meet.ensures.first.0 ∙ c.requires.of.1)) ∙ ap (λ l. l.pads) c.args.self.now.begun in
     inl (subst (λ e. Notes Legal (told shared_id u) e (Err c.in-Err.error) (told shared_id w)) c.in-Ok-Ok.ensures'
-    (notes shared_id u v w asked (Err c.in-Err.error) c.in-Err.ensures.makes Legal w refl refl m.begins_one m.number_one m.own_one m.floor_one c.in-Err.ensures.legal))
+    (notes shared_id u v w asked (Err c.in-Err.error) c.in-Err.ensures.makes Legal w refl refl m.begins_one m.number_one m.own_one m.floor_one (register (first c.call.new.pass), within, c.in-Err.ensures.legal.0)))
 
 pub returns-clause-noted : goal.returns-clause-noted
 returns-clause-noted g c =
@@ -26,10 +28,11 @@ returns-clause-noted g c =
     let v = known c.meet.new.one in
     let w = known c.call.new.pass in
     let asked = c.in-Ok-Ok.asked in
-    let Legal = IsLegal g.H.Device.failures g.H.Shelf.told g.H.D.Device.failures g.H.D.Disk.told g.P.PadOver.refuses in
+    let Legal = IsLegal g.H.Device.failures g.H.Shelf.told g.H.D.Device.failures g.H.D.Disk.told g.P.PadOver.refuses c.args.self.now.limits.pads in
+    let within = ap (λ r. r.limits.pads) (c.call.ensures.first ∙ (c.meet.ensures.first.0 ∙ c.requires.of.1)) ∙ ap (λ l. l.pads) c.args.self.now.begun in
     let lead = n.same ∙ (n.longer ∙ hall_leads shared_id u v w asked (Ok c.in-Ok.cell) c.in-Ok.ensures.makes (seen c.meet.new.other) m.same) in
     inl (subst (λ e. Notes Legal (told shared_id u) e (Ok (shared_id c.in-Ok.cell)) (told shared_id (known c.meet-2.new.other))) c.in-Ok-Ok.ensures'
-    (notes shared_id u v w asked (Ok c.in-Ok.cell) c.in-Ok.ensures.makes Legal (known c.meet-2.new.other) lead n.number_other m.begins_one m.number_one m.own_one m.floor_one c.in-Ok.ensures.legal))
+    (notes shared_id u v w asked (Ok c.in-Ok.cell) c.in-Ok.ensures.makes Legal (known c.meet-2.new.other) lead n.number_other m.begins_one m.number_one m.own_one m.floor_one (register (first c.call.new.pass), within, c.in-Ok.ensures.legal.0)))
 
 pub returns-clause-one : goal.returns-clause-one
 returns-clause-one g c =
@@ -43,7 +46,7 @@ returns-clause-one g c =
     ap (λ l. cell_in l c.args.pad.now) (answers_told shared_id (seen c.meet-2.new.other))
     ∙ (ap (λ l. cell_in (all_told shared_id (pairs l)) c.args.pad.now) lead
     ∙ (ap (cell_in (all_told shared_id (pairs w.seen))) (sym c.in-Ok-Ok.ensures')
-    ∙ answered shared_id g.H.Device.failures g.H.Shelf.told g.H.D.Device.failures g.H.D.Disk.told g.P.PadOver.refuses v w asked c.in-Ok.cell c.in-Ok.ensures.makes c.in-Ok.ensures.legal))
+    ∙ answered shared_id g.H.Device.failures g.H.Shelf.told g.H.D.Device.failures g.H.D.Disk.told g.P.PadOver.refuses (register (first c.call.new.pass)) v w asked c.in-Ok.cell c.in-Ok.ensures.makes c.in-Ok.ensures.legal.0))
 
 pub invariant_of-result : goal.invariant_of-result
 invariant_of-result g c =
@@ -55,8 +58,8 @@ invariant_of-result g c =
     let asked = c.in-Ok-Ok.asked in
     let lead = n.longer ∙ hall_leads shared_id u v w asked (Ok c.in-Ok.cell) c.in-Ok.ensures.makes (seen c.meet.new.other) m.same in
     record {
-      same = c.new_pass-pass.ensures.of ∙ ap id_of c.deref.ensures;
+      same = (c.new_pass-pass.ensures.of ∙ ap id_of c.deref.ensures, c.new_pass-pass.ensures.first ∙ ap first_of c.deref.ensures);
       found = ap (λ l. cell_in (all_told shared_id (pairs l)) c.in-Ok-Ok.name) lead
           ∙ (ap (cell_in (all_told shared_id (pairs w.seen))) (c.in-Ok-Ok.ensures ∙ sym c.in-Ok-Ok.ensures')
-          ∙ answered shared_id g.H.Device.failures g.H.Shelf.told g.H.D.Device.failures g.H.D.Disk.told g.P.PadOver.refuses v w asked c.in-Ok.cell c.in-Ok.ensures.makes c.in-Ok.ensures.legal);
+          ∙ answered shared_id g.H.Device.failures g.H.Shelf.told g.H.D.Device.failures g.H.D.Disk.told g.P.PadOver.refuses (register (first c.call.new.pass)) v w asked c.in-Ok.cell c.in-Ok.ensures.makes c.in-Ok.ensures.legal.0);
     }

@@ -104,12 +104,12 @@ returns-in-Err-begin-clause-bad g c k n is why = c.in-Err-begin.ensures.bad (set
 
 pub returns-in-Ok-begin-clause-begun : goal.returns-in-Ok-begin-clause-begun
 returns-in-Ok-begin-clause-begun g c = (
-  λ tell.
-      let t = tell (disk_of c.in-Ok.file) in
+  λ told.
+      let t = c.in-Ok-begin.ensures.told told.0 told.1 in
       let l = c.in-Ok-begin.ensures.found t.0 t.1 in
       let held = subst (λ o. Holds o l.0) (sym t.1) l.1 in
       let f = first g.D.Disk.told g.D.Device.failures c.args.limits l.0 _ _ l.2 refl refl (c.in-Ok-begin.ensures.begins l.0 held l.2).0 in
-      (f.0, f.0, f.1, refl, f.3),
+      (f.0, f.0, record { first = f.1; stands = f.3 }, refl, f.3),
   All-nil (λ (c : PadEntry × PadReply). Suits c.0 c.1),
 )
 

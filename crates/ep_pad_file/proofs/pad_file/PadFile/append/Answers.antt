@@ -7,7 +7,7 @@ use Rattle.ep_pad_file.specs.Standing.{IsHalfway}
 use Rattle.ep_pad_file.proofs.Standing.{one_or_other, by_gate, stands_same, stands_more}
 use Rattle.ep_pad_file.proofs.Left.{unfinished}
 use Rattle.ep_pad_file.proofs.Stopping.{stopped_kept, stopped_lost}
-use Rattle.ep_pad_file.proofs.Telling.{holds_settled, holds_adds, held_tells, held_rest, left_images, synced_as_read, holds_synced, halfway}
+use Rattle.ep_pad_file.proofs.Telling.{holds_settled, holds_adds, held_tells, held_rest, left_images, synced_as_read, holds_synced, halfway, told_before}
 use Rattle.ep_pad_file.proofs.pad_file.PadFile.append.Goals as goal
 
 pub returns-in-Ok-clause-adds : goal.returns-in-Ok-clause-adds
@@ -130,3 +130,6 @@ returns-in-Err-clause-stopped g c rs calls h alone left asked d image told is =
     let through = c.in-Err.ensures.goes_through (calls - 4) (omega (arith, fits, long)) alone (left ∙ ap (λ (n : ℕ). Some n) more) in
     absurd (cc))
     asked image is
+
+pub returns-in-Ok-clause-told : goal.returns-in-Ok-clause-told
+returns-in-Ok-clause-told g c k told = told_before _ _ _ k c.in-Ok.ensures.adds told
