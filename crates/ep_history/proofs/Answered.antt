@@ -25,7 +25,7 @@ use Rattle.ep_history.specs.Entries.{Entry, Outcome, Reply, outcome, unless, is_
 use Rattle.ep_history.specs.Entries.Answer.{CommitAnswer}
 use Rattle.ep_history.specs.Entries.Entry.{Accept}
 use Rattle.ep_history.specs.Entries.Outcome.{Refuses, Answers, Records}
-use Rattle.ep_history.specs.Machine.{MachineState, Size, Turn, CommitsUnless, IsOpenStep, IsFoundStep, IsClosedStep, IsStep, IsStepAs, IsThen, StaysAs, file_bytes, journal_fault, keeping, most_bytes, reopening, settled, turn, turn_of}
+use Rattle.ep_history.specs.Machine.{MachineState, Size, Turn, CommitsUnless, IsOpenStep, IsFoundStep, IsClosedStep, IsStep, IsStepAs, IsThen, StaysAs, file_bytes, journal_fault, keeping, longest_with, most_bytes, reopening, settled, turn, turn_of}
 use Rattle.ep_history.specs.Machine.IsOpenStep.{Does, Lacks, Fails}
 use Rattle.ep_history.specs.Machine.IsFoundStep.{Opens, IsFull, FailsOpened}
 use Rattle.ep_history.specs.Machine.IsClosedStep.{Finds, LacksOpening, FailsOpening}
@@ -93,7 +93,7 @@ refused-stays size st e bad new step other = go st.is_open step
 -- ---- an admissible edit
 
 journal-full : (size : Size) (st : MachineState) (r : Record) (full : PadBad) → journal_fault size st r ≡ Some full → (bytes : ℕ) × (full ≡ JournalFull bytes)
-journal-full size st r full e = go (nat_lt most_bytes (size r)) (nat_lt st.pad.limits.journal (file_bytes size (st.records ++ r ∷ []))) e
+journal-full size st r full e = go (nat_lt most_bytes (size r)) (nat_lt (longest_with st.pad.limits r) (file_bytes size (st.records ++ r ∷ []))) e
   where
     go : (a b : Bool) → first_fault (fault_if a (JournalFull (size r)) ∷ fault_if b (JournalFull (file_bytes size (st.records ++ r ∷ []))) ∷ []) ≡ Some full
         → (bytes : ℕ) × (full ≡ JournalFull bytes)

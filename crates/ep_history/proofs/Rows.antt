@@ -24,7 +24,7 @@ use Rattle.ep_history.specs.declared.rev.Rev.{Rev}
 use Rattle.ep_history.specs.declared.seat.Why.TheVariants.{Left, Reopened}
 
 abbrev limits : Limits
-limits = record { live = 1; logins = 1000; units = 3; journal = 22; pads = 1 }
+limits = record { live = 1; logins = 1000; units = 3; journal = 20; openings = 2; pads = 1 }
 
 abbrev absent : PadState
 absent = told limits (record_of.Open 1 ∷ [])
@@ -105,7 +105,7 @@ status_absent = refl
 text_absent : outcome absent (ReadText None) ≡ Refuses Gone
 text_absent = refl
 
--- ---- limits: 3 units, 1 live session, 22 bytes
+-- ---- limits: 3 units, 1 live session, 20 bytes of a journal, and 2 more for openings
 
 too_long : outcome entered (Accept first 0 insert 8) ≡ Refuses (TooLong 4)
 too_long = refl
@@ -122,6 +122,16 @@ new = record { records = []; pad = told limits []; is_open = false; pending = []
 
 journal_full : journal_fault size new (record_of.Open 1) ≡ Some (JournalFull 23)
 journal_full = refl
+
+-- where each has 7 bytes, of which an opening and a deletion still have room
+abbrev shorter : Size
+shorter r = 7
+
+openings_have_room : (journal_fault shorter new (record_of.Open 1) ≡ None) × (journal_fault shorter new (record_of.Delete 5) ≡ None)
+openings_have_room = (refl, refl)
+
+text_has_none : journal_fault shorter new (record_of.Create 1 5 (codes "ab")) ≡ Some (JournalFull 21)
+text_has_none = refl
 
 -- ---- fetching at head 250
 

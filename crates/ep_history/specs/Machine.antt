@@ -10,6 +10,7 @@ use Rattle.ep_history.specs.Entries.Answer.{CommitAnswer}
 use Rattle.ep_history.specs.Entries.Outcome.{Refuses, Answers, Records}
 use Rattle.ep_history.specs.declared.pad_bad.PadBad.{PadBad}
 use Rattle.ep_history.specs.declared.pad_bad.PadBad.TheVariants.{JournalFull, Store, NoMemory}
+use Rattle.ep_outside.specs.declared.limits.Limits.{Limits}
 use Rattle.ep_history.specs.declared.record.Record.{Record}
 use Rattle.ep_history.specs.declared.record.Record.TheVariants as record_of
 
@@ -38,11 +39,19 @@ most_bytes = 67108864
 abbrev pub file_bytes : Size → List Record → ℕ
 file_bytes size rs = 9 + sum_by (λ r. size r + 5) rs
 
+-- how long a file may be with this record last: what brings no text has some room more, so that a pad that is full is
+-- still opened, read and deleted
+abbrev pub longest_with : Limits → Record → ℕ
+longest_with limits (record_of.Open epoch) = limits.journal + limits.openings
+longest_with limits (record_of.Delete time) = limits.journal + limits.openings
+longest_with limits (record_of.Public on) = limits.journal + limits.openings
+longest_with limits r = limits.journal
+
 -- why a record isn't kept behind these: by itself, or with them, it is too long
 abbrev pub journal_faults : Size → MachineState → Record → List (Option PadBad)
 journal_faults size st r =
     let bytes = file_bytes size (st.records ++ r ∷ []) in
-    fault_if (nat_lt most_bytes (size r)) (JournalFull (size r)) ∷ fault_if (nat_lt st.pad.limits.journal bytes) (JournalFull bytes) ∷ []
+    fault_if (nat_lt most_bytes (size r)) (JournalFull (size r)) ∷ fault_if (nat_lt (longest_with st.pad.limits r) bytes) (JournalFull bytes) ∷ []
 
 -- why a record isn't kept, if it isn't
 abbrev pub journal_fault : Size → MachineState → Record → Option PadBad
