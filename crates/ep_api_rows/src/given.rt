@@ -23,6 +23,7 @@ fn limits(sequence: &Value) -> Limits {
         logins: limit(told, "logins", 1_000_000),
         units: limit(told, "units", 1_000_000),
         journal: limit(told, "journal", 268_435_456),
+        openings: 0,
         pads: limit(told, "pads", 10_000),
     }
 }

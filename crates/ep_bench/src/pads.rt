@@ -26,6 +26,7 @@ const LIMITS: Limits = Limits {
     logins: 1_000_000,
     units: 1_000_000_000,
     journal: 1_000_000_000_000,
+    openings: 0,
     pads: 1,
 };
 

@@ -25,6 +25,7 @@ const LIMITS: Limits = Limits {
     logins: 1_000_000,
     units: 10_000_000,
     journal: 4_000_000_000,
+    openings: 0,
     pads: 8,
 };
 

@@ -18,6 +18,7 @@ const LIMITS: Limits = Limits {
     logins: 8,
     units: 1_000,
     journal: 100_000,
+    openings: 0,
     pads: 8,
 };
 

@@ -24,6 +24,7 @@ const LIMITS: Limits = Limits {
     logins: 1_000_000,
     units: 1_000_000,
     journal: 268_435_456,
+    openings: 0,
     pads: 10_000,
 };
 

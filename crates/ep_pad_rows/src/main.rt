@@ -30,6 +30,7 @@ fn limited(alloc: Global, words: &str) -> Result<String> {
     let (limit, file) = words.split_once(' ').context("limit N FILE")?;
     let limits = Limits {
         journal: limit.parse::<u64>()?,
+        openings: 0,
         ..LIMITS
     };
     opened(alloc, file, limits)

@@ -12,6 +12,7 @@ pub const LIMITS: Limits = Limits {
     logins: 1_000_000,
     units: 1_000_000,
     journal: 1_073_741_824,
+    openings: 0,
     pads: 1,
 };
 

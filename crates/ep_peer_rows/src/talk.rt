@@ -28,6 +28,7 @@ const LIMITS: Limits = Limits {
     logins: 8,
     units: 1_000_000,
     journal: 10_000_000,
+    openings: 0,
     pads: 8,
 };
 

@@ -35,6 +35,7 @@ fn limits(request: &Value) -> Limits {
         logins: limit(request, "logins", 1_000_000),
         units: limit(request, "units", 1_000_000),
         journal: limit(request, "journal", 1_000_000_000),
+        openings: 0,
         pads: limit(request, "pads", 1024),
     }
 }

@@ -25,6 +25,7 @@ const NO_LIMITS: Limits = Limits {
     logins: 0,
     units: 0,
     journal: 0,
+    openings: 0,
     pads: 0,
 };
 

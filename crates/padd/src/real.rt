@@ -36,7 +36,8 @@ const LIMITS: Limits = Limits {
     live: 500,
     logins: 1_000_000,
     units: 1_000_000,
-    journal: 268_435_456,
+    journal: 268_369_920,
+    openings: 65_536,
     pads: 10_000,
 };
 

@@ -16,6 +16,7 @@ pub const LIMITS: Limits = Limits {
     logins: 64,
     units: 1_000,
     journal: 10_000,
+    openings: 0,
     pads: 2,
 };
 

@@ -14,6 +14,7 @@ const LIMITS: Limits = Limits {
     logins: 9,
     units: 99,
     journal: 999,
+    openings: 0,
     pads: 1,
 };
 

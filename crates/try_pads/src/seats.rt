@@ -24,6 +24,7 @@ impl Door {
         logins: 1,
         units: 1,
         journal: 1,
+        openings: 0,
         pads: 1,
     };
 
@@ -101,6 +102,7 @@ const TWO: Limits = Limits {
     logins: 4,
     units: 0,
     journal: 0,
+    openings: 0,
     pads: 0,
 };
 

@@ -12,6 +12,7 @@ const LIMITS: Limits = Limits {
     logins: 9,
     units: 9,
     journal: 99,
+    openings: 0,
     pads: 1,
 };
 

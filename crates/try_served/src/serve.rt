@@ -31,6 +31,7 @@ const LIMITS: Limits = Limits {
     logins: 64,
     units: 1_000,
     journal: 10_000,
+    openings: 0,
     pads: 8,
 };
 
