@@ -47,6 +47,7 @@ fn room_for(alloc: Global, journal: u64) -> Result<World<MemDisk>, Stopped> {
         logins: 99,
         units: 999,
         journal,
+        openings: 0,
         pads: 9,
     };
     let Some(id) = PadId::read(alloc, &Units::from_str(alloc, "pad")?)? else {
