@@ -61,7 +61,13 @@ long-refused length limit bytes before now bad (inr full) = go (nat_lt most_byte
     go false true is = subst (BeginRefused before now) (some_same is) tt
     go false false is = none_some is
 
--- an append has no other cause, so it is never that of a length
+-- neither an opening of the file nor an append is refused for a length
+pub open-unfilled : (told : Option Contents) (sure : Type 0) (before now n : ℕ) (bad : PadBad) → file.OpenRefused told sure before now bad → bad ≡ JournalFull n → ⊥
+open-unfilled told sure before now n (Store m) why is = absurd (cc)
+open-unfilled told sure before now n Foreign why is = absurd (cc)
+open-unfilled told sure before now n NoMemory why is = absurd (cc)
+open-unfilled told sure before now n bad why is = why
+
 pub append-unfilled : (sure : Type 0) (before now n : ℕ) (bad : PadBad) → AppendRefused sure before now bad → bad ≡ JournalFull n → ⊥
 append-unfilled sure before now n (Store m) why is = absurd (cc)
 append-unfilled sure before now n bad why is = why

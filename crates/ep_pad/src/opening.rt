@@ -213,6 +213,10 @@ impl<D: Crash> PadMachine<D> {
         ensures finds { (c : Contents) → D.told self.old.disk ≡ Some c → (image : List ℕ) × IsAsked c (image_at (D.left self.old.disk) (D.image self.old.disk)) image
             × ((at : MachineState) → MayFind self.old.limits (D.failures self.old.disk) image at
             → OnOk result ((mid : MachineState) × IsWoken at mid × Stands D.told D.failures self.new mid)) }
+        // Also where the journal has no room for its next opening.
+        ensures full { (c : Contents) → D.told self.old.disk ≡ Some c → (image : List ℕ) × IsAsked c (image_at (D.left self.old.disk) (D.image self.old.disk)) image
+            × ((at : MachineState) (n : ℕ) → MayFind self.old.limits (D.failures self.old.disk) image at
+            → IfErr result (λ bad. bad ≡ PadBad.JournalFull n → (next : MachineState) × Sleeps at bad next × Stands D.told D.failures self.new next)) }
         ensures works { D.left self.new.disk ≡ None }
         ensures steady { D.is_steady self.old.disk ≡ true → D.is_steady self.new.disk ≡ true }
         ensures alone { D.stops_alone self.new.disk ≡ D.stops_alone self.old.disk }
