@@ -62,7 +62,7 @@ impl<J: Job> Spawner<J> for MemSpawner {
             return Err(job);
         }
         self.started = self.started.saturating_add(1);
-        job.go(rt);
+        drop(job.go(rt));
         Ok(())
     }
 }

@@ -9,7 +9,14 @@ use std::sync::Wait;
 
 /// Work for a thread of its own.
 pub trait Job {
-    fn go<R: Wait>(self, rt: &R);
+    /// What it leaves: what came of it, and what it held.
+    type Done: Drop;
+
+    /// This is what the job leaves, once it has done its work.
+    ghost has_done: { Self → Self::Done → Type 0 };
+
+    fn go<R: Wait>(self, rt: &R) -> Self::Done
+        ensures { has_done self result };
 }
 
 /// What starts jobs of one kind.

@@ -95,7 +95,7 @@ impl<J: Job + Drop> Spawner<J> for ThreadSpawner<J> {
 
 fn go_sent<R: Wait, J: Job + Drop>(rt: &R, from: Receiver<J>) {
     if let Ok(job) = from.recv(rt) {
-        job.go(rt);
+        drop(job.go(rt));
     }
 }
 
