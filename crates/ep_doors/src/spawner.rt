@@ -13,10 +13,15 @@ pub trait Job {
     type Done: Drop;
 
     /// This is what the job leaves, once it has done its work.
-    ghost has_done: { Self → Self::Done → Type 0 };
+    ghost has_done: { Self → Self.Done → Type 0 };
 
     fn go<R: Wait>(self, rt: &R) -> Self::Done
         ensures { has_done self result };
+}
+
+/// Does a job, whatever it leaves.
+pub fn finish<R: Wait, J: Job>(rt: &R, job: J) {
+    drop(job.go(rt));
 }
 
 /// What starts jobs of one kind.

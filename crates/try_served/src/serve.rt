@@ -5,11 +5,11 @@ mod wire;
 
 use doors::{Api, Caller, Callers};
 use ep_disk_mem::{MemClock, MemDraws, MemShelf};
-use ep_doors::{Host, Job, MemSpawner, Served, Spawner, ThreadSpawner, serve, start_all};
+use ep_doors::{Host, Job, MemSpawner, Served, Spawner, ThreadSpawner, finish, serve, start_all};
 use ep_keep::MapKeeper;
 use ep_outside::Limits;
 use ep_pad_port::House;
-use ep_serve::{Server, Work};
+use ep_serve::{Server, Serving};
 use ep_units::NoMemory;
 use std::alloc::Global;
 use std::collections::VecDeque;
@@ -39,7 +39,7 @@ type MemHouse = House<MemShelf, MapKeeper>;
 
 /// What is done for a caller of a server in memory.
 struct MemJob {
-    work: Work<MemHouse, WireLink, Api, MemClock, MemDraws<'static>>,
+    work: Serving<MemHouse, WireLink, Api, MemClock, MemDraws<'static>>,
 }
 
 impl Drop for MemJob {
@@ -49,9 +49,13 @@ impl Drop for MemJob {
 }
 
 impl Job for MemJob {
+    type Done = ();
+
+    ghost has_done = { λ _ _. Unit {0} };
+
     fn go<R: Wait>(self, rt: &R) {
         let MemJob { work } = self;
-        work.go(rt);
+        finish(rt, work);
     }
 }
 
