@@ -15,5 +15,5 @@ pub use came::Came;
 pub use doors::Doors;
 pub use mem_spawner::MemSpawner;
 pub use serving::{Host, Served, serve};
-pub use spawner::{Job, Spawner, finish};
+pub use spawner::{Job, Spawner};
 pub use thread_spawner::{Starter, ThreadSpawner, start_all};

@@ -5,7 +5,7 @@ ghost use Rattle.ep_outside.specs.Outside.{HasCause, risen};
 ghost use Rattle.ep_outside.specs.Planned.{Follows, planned};
 ghost use Rattle.ep_disk_mem.specs.Faults.{fails_never, none_failed, plan_of};
 
-use crate::spawner::{Job, Spawner, finish};
+use crate::spawner::{Job, Spawner};
 use ep_disk_mem::Faults;
 use ep_outside::Device;
 use std::sync::Wait;
@@ -62,7 +62,7 @@ impl<J: Job> Spawner<J> for MemSpawner {
             return Err(job);
         }
         self.started = self.started.saturating_add(1);
-        finish(rt, job);
+        job.go(rt);
         Ok(())
     }
 }

@@ -9,19 +9,7 @@ use std::sync::Wait;
 
 /// Work for a thread of its own.
 pub trait Job {
-    /// What it leaves: what came of it, and what it held.
-    type Done: Drop;
-
-    /// This is what the job leaves, once it has done its work.
-    ghost has_done: { Self → Self.Done → Type 0 };
-
-    fn go<R: Wait>(self, rt: &R) -> Self::Done
-        ensures { has_done self result };
-}
-
-/// Does a job, whatever it leaves.
-pub fn finish<R: Wait, J: Job>(rt: &R, job: J) {
-    drop(job.go(rt));
+    fn go<R: Wait>(self, rt: &R);
 }
 
 /// What starts jobs of one kind.

@@ -3,7 +3,7 @@
 ghost use Rattle.std.specs.Prelude.{◌≡◌, ◌≤◌, IsErr};
 ghost use Rattle.ep_outside.specs.Outside.{HasRisen};
 
-use crate::spawner::{Job, Spawner, finish};
+use crate::spawner::{Job, Spawner};
 use crossbeam_channel::{Receiver, Sender, bounded};
 use ep_outside::Device;
 use ep_units::NoMemory;
@@ -95,7 +95,7 @@ impl<J: Job + Drop> Spawner<J> for ThreadSpawner<J> {
 
 fn go_sent<R: Wait, J: Job + Drop>(rt: &R, from: Receiver<J>) {
     if let Ok(job) = from.recv(rt) {
-        finish(rt, job);
+        job.go(rt);
     }
 }
 

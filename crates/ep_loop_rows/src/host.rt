@@ -40,10 +40,6 @@ pub fn server(alloc: Global) -> Result<MemServer, NoMemory> {
 pub struct Idle;
 
 impl Job for Idle {
-    type Done = ();
-
-    ghost has_done = { λ _ _. Unit {0} };
-
     fn go<R: Wait>(self, _rt: &R) {}
 }
 

@@ -14,8 +14,6 @@ use Rattle.ep_session.specs.Drawing.{DrawsAll}
 use Rattle.ep_session.specs.Passing.{own_of}
 use Rattle.ep_session.specs.Served.{Served}
 use Rattle.ep_session.specs.declared.session.Report.{Report}
-use Rattle.ep_serve.specs.declared.work.Work.{Work}
-use Rattle.ep_serve.specs.declared.work.Work.TheVariants.{Pad, Api}
 
 -- a caller of pads had a session: ten numbers were drawn for it, it went as the walk says, and its passes are of these ports
 pub record HasSat {Hall Desk Pass : Type 0} (hall_known : Hall → Known Text (Answer PadBad)) (desk_known : Desk → Known DirEntry DirReply) (known : Pass → Known PadEntry PadReply)
@@ -27,9 +25,3 @@ pub record HasSat {Hall Desk Pass : Type 0} (hall_known : Hall → Known Text (A
   pub hall : IfSome report.hall is_hall
   pub desk : IfSome report.desk is_desk
   pub pass : IfSome report.pass is_pass
-
--- the work of a caller at one door was done, and this is left
-abbrev pub HasDone : {S A X Y : Type 0} → (S → X → Type 0) → (A → Y → Type 0) → Work S A → Work X Y → Type 0
-HasDone sat told (Pad s) (Pad x) = sat s x
-HasDone sat told (Api a) (Api y) = told a y
-HasDone sat told w d = ⊥

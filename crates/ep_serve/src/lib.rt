@@ -11,4 +11,4 @@ mod work;
 
 pub use asked::{Unanswered, answer_caller};
 pub use server::Server;
-pub use work::{Asking, Sat, Serving, Sitting, Told, Work};
+pub use work::{Asking, Sat, SatOf, Serving, Sitting, Told, Work};

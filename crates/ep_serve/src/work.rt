@@ -1,6 +1,6 @@
 //! What is done for a caller.
 
-ghost use Rattle.ep_serve.specs.Work.{HasDone, HasSat};
+ghost use Rattle.ep_serve.specs.Work.{HasSat};
 
 use crate::asked::{Unanswered, answer_caller};
 use ep_doors::Job;
@@ -31,25 +31,27 @@ pub struct Sat<O, A, B, L, D> {
     pub draws: D,
 }
 
-impl<P: PadPort + DirPort + Drop, L: Link + Drop, C: Clock + Drop, D: Draws + Drop> Job
-    for Sitting<P, L, C, D> {
+/// What is left of a caller of pads of this port.
+pub type SatOf<P, L, D> = Sat<
+    <P as PadPort>::Hall,
+    RingPass<<P as PadPort>::Pass>,
+    <P as DirPort>::Pass,
+    L,
+    D,
+>;
+
+impl<P: PadPort + DirPort + Drop, L: Link + Drop, C: Clock + Drop, D: Draws + Drop> Sitting<
+    P,
+    L,
+    C,
+    D,
+> {
     ghost use Rattle.std.specs.Arc.{arc_value};
 
-    type Done = Sat<
-        <P as PadPort>::Hall,
-        RingPass<<P as PadPort>::Pass>,
-        <P as DirPort>::Pass,
-        L,
-        D,
-    >;
-
-    // It had a session over its link, by the house of its port.
-    ghost has_done = { λ s d. HasSat ⟦<P as PadPort>⟧.hall_known ⟦<P as DirPort>⟧.known (λ pass. ⟦<P as PadPort>⟧.known pass.pass) (λ hall. ⟦<P as PadPort>⟧.is_hall (arc_value s.pads.pads) hall) (λ desk. ⟦<P as DirPort>⟧.is_of (arc_value s.pads.pads) desk) (λ pass. ⟦<P as PadPort>⟧.is_of (arc_value s.pads.pads) pass.pass) (C.may_show (arc_value s.clock)) (D.to_come s.draws) (D.to_come d.draws) (L.traffic s.link) (L.traffic d.link) d.report };
-
-    fn go<R: Wait>(
-        self,
-        rt: &R,
-    ) -> Sat<<P as PadPort>::Hall, RingPass<<P as PadPort>::Pass>, <P as DirPort>::Pass, L, D> {
+    /// Has a session over the link, by the pads and the directory of the port.
+    pub fn sit<R: Wait>(self, rt: &R) -> SatOf<P, L, D>
+        ensures { HasSat ⟦<P as PadPort>⟧.hall_known ⟦<P as DirPort>⟧.known (λ pass. ⟦<P as PadPort>⟧.known pass.pass) (λ hall. ⟦<P as PadPort>⟧.is_hall (arc_value self.pads.pads) hall) (λ desk. ⟦<P as DirPort>⟧.is_of (arc_value self.pads.pads) desk) (λ pass. ⟦<P as PadPort>⟧.is_of (arc_value self.pads.pads) pass.pass) (C.may_show (arc_value self.clock)) (D.to_come self.draws) (D.to_come result.draws) (L.traffic self.link) (L.traffic result.link) result.report }
+    {
         let Sitting {
             alloc,
             pads,
@@ -72,6 +74,13 @@ impl<P: PadPort + DirPort + Drop, L: Link + Drop, C: Clock + Drop, D: Draws + Dr
             link,
             draws,
         }
+    }
+}
+
+impl<P: PadPort + DirPort + Drop, L: Link + Drop, C: Clock + Drop, D: Draws + Drop> Job
+    for Sitting<P, L, C, D> {
+    fn go<R: Wait>(self, rt: &R) {
+        drop(self.sit(rt));
     }
 }
 
@@ -100,24 +109,20 @@ impl<
     A: Source + Sink + Drop,
     C: Clock + Drop,
     D: Draws + Drop,
-> Job for Asking<P, E, A, C, D> {
+> Asking<P, E, A, C, D> {
     ghost use Rattle.std.specs.Prelude.{string_bytes};
     ghost use Rattle.std.specs.Arc.{arc_value};
     ghost use Rattle.ep_api.specs.Legal.{Sits, Stands, Waits};
     ghost use Rattle.ep_serve.specs.Asked.{Answers};
 
-    type Done = Told<A, D>;
-
-    // Its one request was read, done by the house of its port, and answered.
-    ghost has_done = { λ s d.
-        let port = arc_value s.pads.pads in
-        Answers ⟦<P as PadPort>⟧.hall_known ⟦<P as DirPort>⟧.known ⟦<Ringing<P, E> as PadPort>⟧.known ⟦<Ringing<P, E> as PadPort>⟧.name_of ⟦<Ringing<P, E> as PadPort>⟧.cell_of
-        (Waits (⟦<P as PadPort>⟧.is_hall port) (⟦<P as PadPort>⟧.is_register (⟦<P as PadPort>⟧.limits_of port)) ⟦<P as PadPort>⟧.hall_known)
-        (Sits (⟦<P as DirPort>⟧.is_of port) ⟦<P as DirPort>⟧.Store.always_tells (⟦<P as DirPort>⟧.begun port) ⟦<P as DirPort>⟧.known)
-        (Stands (⟦<Ringing<P, E> as PadPort>⟧.is_of s.pads) (⟦<P as PadPort>⟧.limits_of port) ⟦<P as PadPort>⟧.Store.told ⟦<P as PadPort>⟧.Store.failures ⟦<Ringing<P, E> as PadPort>⟧.begun ⟦<Ringing<P, E> as PadPort>⟧.known)
-        (C.may_show (arc_value s.clock)) (string_bytes (arc_value s.key)) (D.to_come s.draws) (D.to_come d.draws) A.left A.held A.failures s.caller d.caller d.answered };
-
-    fn go<R: Wait>(self, rt: &R) -> Told<A, D> {
+    /// Reads the one request of the caller, has it done by the pads and the directory of the port, and answers it.
+    pub fn tell<R: Wait>(self, rt: &R) -> Told<A, D>
+        ensures { Answers ⟦<P as PadPort>⟧.hall_known ⟦<P as DirPort>⟧.known ⟦<Ringing<P, E> as PadPort>⟧.known ⟦<Ringing<P, E> as PadPort>⟧.name_of ⟦<Ringing<P, E> as PadPort>⟧.cell_of
+            (Waits (⟦<P as PadPort>⟧.is_hall (arc_value self.pads.pads)) (⟦<P as PadPort>⟧.is_register (⟦<P as PadPort>⟧.limits_of (arc_value self.pads.pads))) ⟦<P as PadPort>⟧.hall_known)
+            (Sits (⟦<P as DirPort>⟧.is_of (arc_value self.pads.pads)) ⟦<P as DirPort>⟧.Store.always_tells (⟦<P as DirPort>⟧.begun (arc_value self.pads.pads)) ⟦<P as DirPort>⟧.known)
+            (Stands (⟦<Ringing<P, E> as PadPort>⟧.is_of self.pads) (⟦<P as PadPort>⟧.limits_of (arc_value self.pads.pads)) ⟦<P as PadPort>⟧.Store.told ⟦<P as PadPort>⟧.Store.failures ⟦<Ringing<P, E> as PadPort>⟧.begun ⟦<Ringing<P, E> as PadPort>⟧.known)
+            (C.may_show (arc_value self.clock)) (string_bytes (arc_value self.key)) (D.to_come self.draws) (D.to_come result.draws) A.left A.held A.failures self.caller result.caller result.answered }
+    {
         let Asking {
             alloc,
             pads,
@@ -144,7 +149,19 @@ impl<
     }
 }
 
-/// What is done for a caller of pads, or for one of the API; and what is left of it.
+impl<
+    P: PadPort + DirPort + Drop,
+    E: Ear,
+    A: Source + Sink + Drop,
+    C: Clock + Drop,
+    D: Draws + Drop,
+> Job for Asking<P, E, A, C, D> {
+    fn go<R: Wait>(self, rt: &R) {
+        drop(self.tell(rt));
+    }
+}
+
+/// What is done for a caller of pads, or for one of the API.
 #[derive(Drop)]
 pub enum Work<S, A> {
     Pad(S),
@@ -152,14 +169,10 @@ pub enum Work<S, A> {
 }
 
 impl<S: Job + Drop, A: Job + Drop> Job for Work<S, A> {
-    type Done = Work<S::Done, A::Done>;
-
-    ghost has_done = { HasDone S.has_done A.has_done };
-
-    fn go<R: Wait>(self, rt: &R) -> Work<S::Done, A::Done> {
+    fn go<R: Wait>(self, rt: &R) {
         match self {
-            Work::Pad(sitting) => Work::Pad(sitting.go(rt)),
-            Work::Api(asking) => Work::Api(asking.go(rt)),
+            Work::Pad(sitting) => sitting.go(rt),
+            Work::Api(asking) => asking.go(rt),
         }
     }
 }

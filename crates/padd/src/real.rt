@@ -3,7 +3,7 @@
 use crate::missing::{Missing, Opened, judged_at};
 use crate::shelf::RealShelf;
 use crate::spoken::{Spoken, spoken_by};
-use ep_doors::{Host, Job, ThreadSpawner, finish};
+use ep_doors::{Host, Job, ThreadSpawner};
 use ep_edge::{StdSink, StdSource, SysClock, SysDraws};
 use ep_keep_far::FarKeeper;
 use ep_keep_sql::{FileKeeper, SqlKeeper};
@@ -59,13 +59,9 @@ impl<R: Wait + Net + RandomSource + Clock + Copy + Drop> Drop for RealJob<R> {
 }
 
 impl<R: Wait + Net + RandomSource + Clock + Copy + Drop> Job for RealJob<R> {
-    type Done = ();
-
-    ghost has_done = { λ _ _. Unit {0} };
-
     fn go<W: Wait>(self, rt: &W) {
         let RealJob { work } = self;
-        finish(rt, work);
+        work.go(rt);
     }
 }
 

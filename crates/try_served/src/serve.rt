@@ -5,7 +5,7 @@ mod wire;
 
 use doors::{Api, Caller, Callers};
 use ep_disk_mem::{MemClock, MemDraws, MemShelf};
-use ep_doors::{Host, Job, MemSpawner, Served, Spawner, ThreadSpawner, finish, serve, start_all};
+use ep_doors::{Host, Job, MemSpawner, Served, Spawner, ThreadSpawner, serve, start_all};
 use ep_keep::MapKeeper;
 use ep_outside::Limits;
 use ep_pad_port::House;
@@ -49,13 +49,9 @@ impl Drop for MemJob {
 }
 
 impl Job for MemJob {
-    type Done = ();
-
-    ghost has_done = { λ _ _. Unit {0} };
-
     fn go<R: Wait>(self, rt: &R) {
         let MemJob { work } = self;
-        finish(rt, work);
+        work.go(rt);
     }
 }
 

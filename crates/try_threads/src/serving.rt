@@ -28,10 +28,6 @@ impl Drop for Told {
 }
 
 impl Job for Told {
-    type Done = ();
-
-    ghost has_done = { λ _ _. Unit {0} };
-
     fn go<R: Wait>(self, rt: &R) {
         drop(self.to.send(rt, self.number));
     }

@@ -15,10 +15,6 @@ use std::sync::Wait;
 pub struct Idle;
 
 impl Job for Idle {
-    type Done = ();
-
-    ghost has_done = { λ _ _. Unit {0} };
-
     fn go<R: Wait>(self, _rt: &R) {}
 }
 
