@@ -2,7 +2,7 @@
 
 ghost use Rattle.ep_serve.specs.Work.{HasSat};
 
-use crate::asked::{Unanswered, answer_caller};
+use crate::asked::{Came, Unanswered, answer_caller};
 use ep_doors::Job;
 use ep_groups::DirPort;
 use ep_link::{Ear, Link};
@@ -97,11 +97,20 @@ pub struct Asking<P: Drop, E: Ear, A: Source + Sink + Drop, C: Drop, D: Drop> {
 
 /// What a caller of the API leaves: what came of it, its connection and its draws.
 #[derive(Drop)]
-pub struct Told<A, D> {
-    pub answered: Result<(), Unanswered>,
-    pub caller: A,
+pub struct Told<O, B, A, T, D> {
+    pub answered: Result<Came<O, B, A>, Unanswered>,
+    pub caller: T,
     pub draws: D,
 }
+
+/// What is left of a caller of the API of this port.
+pub type ToldOf<P, A, D> = Told<
+    <P as PadPort>::Hall,
+    <P as DirPort>::Pass,
+    RingPass<<P as PadPort>::Pass>,
+    A,
+    D,
+>;
 
 impl<
     P: PadPort + DirPort + Drop,
@@ -116,7 +125,7 @@ impl<
     ghost use Rattle.ep_serve.specs.Asked.{Answers};
 
     /// Reads the one request of the caller, has it done by the pads and the directory of the port, and answers it.
-    pub fn tell<R: Wait>(self, rt: &R) -> Told<A, D>
+    pub fn tell<R: Wait>(self, rt: &R) -> ToldOf<P, A, D>
         ensures { Answers ⟦<P as PadPort>⟧.hall_known ⟦<P as DirPort>⟧.known ⟦<Ringing<P, E> as PadPort>⟧.known ⟦<Ringing<P, E> as PadPort>⟧.name_of ⟦<Ringing<P, E> as PadPort>⟧.cell_of
             (Waits (⟦<P as PadPort>⟧.is_hall (arc_value self.pads.pads)) (⟦<P as PadPort>⟧.is_register (⟦<P as PadPort>⟧.limits_of (arc_value self.pads.pads))) ⟦<P as PadPort>⟧.hall_known)
             (Sits (⟦<P as DirPort>⟧.is_of (arc_value self.pads.pads)) ⟦<P as DirPort>⟧.Store.always_tells (⟦<P as DirPort>⟧.begun (arc_value self.pads.pads)) ⟦<P as DirPort>⟧.known)
