@@ -17,3 +17,9 @@ pub record StopsIn (st : MachineState) (e : Entry) (reply : Reply) (kept : Bool)
 pub data StaysStopped (st : MachineState) (e : Entry) (bad : PadBad) (new : MachineState) : Type 0 where
   Before : Sleeps st bad new → StaysStopped st e bad new
   Behind : (mid next : MachineState) (reply : Reply) → IsWoken st mid → IsStep size mid e reply next → Sleeps (stopped next) bad new → StaysStopped st e bad new
+
+-- It is not open, as the journal has no room for the record of its opening: of the one before the entry, or of the one behind
+-- it. Then the entry was done or not, as this says of the state in which the machine was.
+pub data HasNoRoom (st : MachineState) (e : Entry) (kept : MachineState → Bool) (bad : PadBad) (new : MachineState) : Type 0 where
+  AsleepBefore : Sleeps st bad new → HasNoRoom st e kept bad new
+  AsleepBehind : (mid at : MachineState) (reply : Reply) → IsWoken st mid → StopsIn mid e reply (kept mid) at → Sleeps at bad new → HasNoRoom st e kept bad new

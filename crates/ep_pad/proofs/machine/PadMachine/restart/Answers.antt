@@ -2,12 +2,12 @@ use Rattle.std.proofs.Common.{false, None, sym, subst, refl, arith}
 use Rattle.std.proofs.lemmas.Result.{err_from_is_err_and}
 use Rattle.ep_outside.proofs.Moments.{weaker}
 use Rattle.ep_history.specs.Machine.{settled}
-use Rattle.ep_pad_file.specs.Standing.{IsOldOrMore}
+use Rattle.ep_pad_file.specs.Standing.{IsOldOrMore, MayHold}
 use Rattle.ep_pad_file.proofs.Telling.{holds_settled}
 use Rattle.ep_pad.specs.Crashes.{MayRemain}
 use Rattle.ep_pad.specs.Opening.{stopped}
 use Rattle.ep_pad.specs.Standing.{Stands}
-use Rattle.ep_pad.proofs.Causes.{open-fault}
+use Rattle.ep_pad.proofs.Causes.{open-fault, open-unfilled}
 use Rattle.ep_pad.proofs.Crashing.{both, leaves-from, left-old-or-more}
 use Rattle.ep_pad.proofs.Waking.{first, was-kept, legal-found, settled-told, stopped-kept, stops, stands-shut, unbegun, unread, woken}
 use Rattle.ep_pad.proofs.machine.PadMachine.restart.Goals as goal
@@ -109,3 +109,33 @@ returns-clause-finds g c = rw (sym c.self.view_is) (λ k told.
           let w = woken g.D.Disk.told g.D.Device.failures at.faults at _ _ false (settled-told at false m.kept) (record { shut = m.shut; limits = m.limits; faults = refl }) (omega (arith, few, later)) begun.0 refl in
           (w.0, w.1, w.2),
     ))
+
+-- ---- it has no room for the opening
+
+pub returns-in_err-restart-clause-full : goal.returns-in_err-restart-clause-full
+returns-in_err-restart-clause-full g c =
+    let p = err_from_is_err_and c.from_residual.result c.from_residual.ensures.1 in
+    rw (sym c.self.view_is) (λ k told.
+    let o = c.in_err-restart.ensures.opens k told in
+    (o.0, o.1, λ at n m. rw (p.1, p.2) (λ full. absurd (open-unfilled None _ _ _ n _ c.in_err-restart.ensures.refused full))))
+
+pub returns-in_err-self-inside-clause-full : goal.returns-in_err-self-inside-clause-full
+returns-in_err-self-inside-clause-full g c =
+    let p = err_from_is_err_and c.from_residual-in_err-self-inside.result c.from_residual-in_err-self-inside.ensures.1 in
+    rw (sym c.self.view_is) (λ k told.
+    let o = c.in_ok-restart.ensures.opens k told in (
+      o.0,
+      o.1,
+      λ at n m.
+          let held = o.2.records at.records m.stands in
+          let begun = c.in_err-self-inside.ensures.begins at.records held (legal-found at false c.self.inside.limits m.kept m.limits) in
+          let few = m.few in
+          let later = c.in_ok-restart.ensures.later in
+          let may = subst (MayHold _ at.records) (sym m.settled) (holds_settled _ _ _ at.records c.in_ok-restart.ensures.ready.held held) in
+          let u = stands-shut g.D.Disk.told g.D.Device.failures at _ _ _ refl
+          (unbegun g.D.Disk.told g.D.Device.failures _ at.faults at _ _ false _ (settled-told at false m.kept) (record { shut = m.shut; limits = m.limits; faults = refl }) (omega (arith, few, later)) may begun.0) in
+          rw (p.1, p.2) (λ full. (u.0, u.1, u.2)),
+    ))
+
+pub returns-clause-full : goal.returns-clause-full
+returns-clause-full g c = rw (sym c.self.view_is) (λ k told. let o = c.in_ok-restart.ensures.opens k told in (o.0, o.1, λ at n m. tt))
