@@ -99,5 +99,5 @@ asked_legal told_by failures begun now v e kind r w same (inl a) h = subst (λ b
 asked_legal told_by failures begun now v e kind r w same (inr x) h = subst (λ b. IsLegalFrom told_by failures b (pairs w.seen)) (sym same) (subst (λ (u : Known PadEntry PadReply). IsLegalFrom told_by failures begun (pairs u.seen)) (sym x.1) h)
 
 -- what is legal behind a machine is so behind the same one
-pub legal_on : {D : Type 0} {told : D → Option Contents} {failures : D → ℕ} {old new : Held D} {h : List (PadEntry × PadReply)} → new ≡ old → IsLegalFrom told failures old h → IsLegalFrom told failures new h
-legal_on {told = told} {failures = failures} {h = h} same legal = subst (λ m. IsLegalFrom told failures m h) (sym same) legal
+pub legal_on : {D : Type 0} {told : D → Option Contents} {failures : D → ℕ} {old new : Held D} (h : List (PadEntry × PadReply)) → new ≡ old → IsLegalFrom told failures old h → IsLegalFrom told failures new h
+legal_on {told = told} {failures = failures} h same legal = subst (λ m. IsLegalFrom told failures m h) (sym same) legal

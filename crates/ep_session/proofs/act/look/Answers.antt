@@ -35,10 +35,10 @@ returns-clause-done g c =
     c.in_ok-piece.was c.in_ok-steps.ensures (goes_of _ _ _ _ c.history.ensures.asks.makes) (c.show.ensures.done c.args.place.now)
 
 pub returns-in_err-piece-clause-legal : goal.returns-in_err-piece-clause-legal
-returns-in_err-piece-clause-legal g c = λ _. legal_on c.history.ensures.pad.2 c.history.ensures.asks.legal
+returns-in_err-piece-clause-legal g c = λ _. legal_on _ c.history.ensures.pad.2 c.history.ensures.asks.legal
 
 pub returns-in_err-steps-clause-legal : goal.returns-in_err-steps-clause-legal
-returns-in_err-steps-clause-legal g c = λ _. legal_on c.history.ensures.pad.2 c.history.ensures.asks.legal
+returns-in_err-steps-clause-legal g c = λ _. legal_on _ c.history.ensures.pad.2 c.history.ensures.asks.legal
 
 pub returns-clause-legal : goal.returns-clause-legal
-returns-clause-legal g c = λ _. legal_on c.history.ensures.pad.2 c.history.ensures.asks.legal
+returns-clause-legal g c = λ _. legal_on _ c.history.ensures.pad.2 c.history.ensures.asks.legal

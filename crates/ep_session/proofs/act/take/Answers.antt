@@ -28,7 +28,7 @@ returns-clause-done g c sent =
     refl)
 
 pub returns-in_err-accept-clause-legal : goal.returns-in_err-accept-clause-legal
-returns-in_err-accept-clause-legal g c = λ _. legal_on c.accept.ensures.pad.2 c.accept.ensures.asks.legal
+returns-in_err-accept-clause-legal g c = λ _. legal_on _ c.accept.ensures.pad.2 c.accept.ensures.asks.legal
 
 pub returns-clause-legal : goal.returns-clause-legal
-returns-clause-legal g c = λ _. legal_on c.accept.ensures.pad.2 c.accept.ensures.asks.legal
+returns-clause-legal g c = λ _. legal_on _ c.accept.ensures.pad.2 c.accept.ensures.asks.legal

@@ -45,10 +45,10 @@ returns-clause-done g c =
     (subst (λ (nops : List ℕ). OnLink {X = Unit {0}} (t c.args.link.now) (t n.link) at n.place (news_due at.rev f.revs.items nops) (Ok r) (λ _. [])) c.deref.ensures.value c.in_ok-tell_all.ensures.done))
 
 pub returns-in_err-fetched-clause-legal : goal.returns-in_err-fetched-clause-legal
-returns-in_err-fetched-clause-legal g c = λ _. legal_on c.fetch.ensures.pad.2 c.fetch.ensures.asks.legal
+returns-in_err-fetched-clause-legal g c = λ _. legal_on _ c.fetch.ensures.pad.2 c.fetch.ensures.asks.legal
 
 pub returns-in_err-tell_all-clause-legal : goal.returns-in_err-tell_all-clause-legal
-returns-in_err-tell_all-clause-legal g c = λ _. legal_on c.fetch.ensures.pad.2 c.fetch.ensures.asks.legal
+returns-in_err-tell_all-clause-legal g c = λ _. legal_on _ c.fetch.ensures.pad.2 c.fetch.ensures.asks.legal
 
 pub returns-clause-legal : goal.returns-clause-legal
-returns-clause-legal g c = λ _. legal_on c.fetch.ensures.pad.2 c.fetch.ensures.asks.legal
+returns-clause-legal g c = λ _. legal_on _ c.fetch.ensures.pad.2 c.fetch.ensures.asks.legal
