@@ -113,6 +113,10 @@ pub data IsWoken (st mid : MachineState) : Type 0 where
 abbrev pub Sleeps : MachineState → PadBad → MachineState → Type 0
 Sleeps st bad new = (st.is_open ≡ false) × ((e : Entry) → IsClosedStep size st e (Err bad) new)
 
+-- a closed one found its records, and its journal has no room for the record of its opening: it stays as it is
+abbrev pub IsFullThen : MachineState → PadBad → MachineState → Type 0
+IsFullThen st bad new = (journal_fault size st (open_record st) ≡ Some bad) × IsThen st new
+
 -- a machine that stopped
 abbrev pub stopped : MachineState → MachineState
 stopped st = record st { is_open = false }

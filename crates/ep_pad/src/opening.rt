@@ -15,7 +15,7 @@ ghost use Rattle.ep_pad.specs.Held.{longest_of};
 ghost use Rattle.ep_pad.specs.Histories.{HasMade};
 ghost use Rattle.ep_pad.specs.Standing.{opening, Stands};
 ghost use Rattle.ep_pad.specs.Crashes.{Comes, MayRemain};
-ghost use Rattle.ep_pad.specs.Opening.{appended, found, stopped, BeginRefused, Begins, BeginsNot, IsBadAt, IsFullAt, IsLegalFile, IsReadFault, IsRefused, IsWoken, MayFind, Sleeps};
+ghost use Rattle.ep_pad.specs.Opening.{appended, found, stopped, BeginRefused, Begins, BeginsNot, IsBadAt, IsFullAt, IsFullThen, IsLegalFile, IsReadFault, IsRefused, IsWoken, MayFind, Sleeps};
 
 use crate::lengths::{longest_file, longest_file_with};
 use crate::machine::PadMachine;
@@ -216,7 +216,7 @@ impl<D: Crash> PadMachine<D> {
         // Also where the journal has no room for its next opening.
         ensures full { (c : Contents) → D.told self.old.disk ≡ Some c → (image : List ℕ) × IsAsked c (image_at (D.left self.old.disk) (D.image self.old.disk)) image
             × ((at : MachineState) (n : ℕ) → MayFind self.old.limits (D.failures self.old.disk) image at
-            → IfErr result (λ bad. bad ≡ PadBad.JournalFull n → (next : MachineState) × Sleeps at bad next × Stands D.told D.failures self.new next)) }
+            → IfErr result (λ bad. bad ≡ PadBad.JournalFull n → (next : MachineState) × IsFullThen at bad next × Stands D.told D.failures self.new next)) }
         ensures works { D.left self.new.disk ≡ None }
         ensures steady { D.is_steady self.old.disk ≡ true → D.is_steady self.new.disk ≡ true }
         ensures alone { D.stops_alone self.new.disk ≡ D.stops_alone self.old.disk }

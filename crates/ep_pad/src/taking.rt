@@ -14,7 +14,7 @@ ghost use Rattle.ep_pad.specs.Crashes.{Comes, IsUncalled};
 ghost use Rattle.ep_pad.specs.Held.{Held};
 ghost use Rattle.ep_pad.specs.Opening.{stopped, IsWoken, MayFind};
 ghost use Rattle.ep_pad.specs.Standing.{replied, Stands};
-ghost use Rattle.ep_pad.specs.Stopping.{HasNoRoom, StaysStopped, StopsIn};
+ghost use Rattle.ep_pad.specs.Stopping.{HasNoRoom, IsToldBehind, StaysStopped, StopsIn};
 
 use crate::machine::PadMachine;
 use ep_cs::Change;
@@ -88,7 +88,19 @@ impl<D: Crash> PadMachine<D> {
         self.stop_after(calls, Image::Old);
         let taken = self.take(session, base, change, now);
         self.stop_after(0, asked);
-        self.restart()?;
-        Ok(taken)
+        match self.restart() {
+            Ok(()) => Ok(taken),
+            Err(bad) => Err(told_behind(&taken, bad)),
+        }
+    }
+}
+
+/// What is told of an opening that was refused behind a take.
+fn told_behind(taken: &Result<Committed, PadBad>, bad: PadBad) -> PadBad
+    ensures { IsToldBehind taken.now bad result }
+{
+    match (taken, bad) {
+        (Err(PadBad::NoMemory), PadBad::JournalFull(_)) => PadBad::NoMemory,
+        _ => bad,
     }
 }

@@ -2,14 +2,15 @@ use Rattle.std.proofs.Common.{false, None, sym, subst, refl, arith}
 use Rattle.std.proofs.lemmas.Result.{err_from_is_err_and}
 use Rattle.ep_outside.proofs.Moments.{weaker}
 use Rattle.ep_history.specs.Machine.{settled}
-use Rattle.ep_pad_file.specs.Standing.{IsOldOrMore, MayHold}
+use Rattle.ep_pad_file.specs.Standing.{IsOldOrMore}
 use Rattle.ep_pad_file.proofs.Telling.{holds_settled}
 use Rattle.ep_pad.specs.Crashes.{MayRemain}
 use Rattle.ep_pad.specs.Opening.{stopped}
 use Rattle.ep_pad.specs.Standing.{Stands}
 use Rattle.ep_pad.proofs.Causes.{open-fault, open-unfilled}
 use Rattle.ep_pad.proofs.Crashing.{both, leaves-from, left-old-or-more}
-use Rattle.ep_pad.proofs.Waking.{first, was-kept, legal-found, settled-told, stopped-kept, stops, stands-shut, unbegun, unread, woken}
+use Rattle.ep_pad.proofs.Steps.{with_faults}
+use Rattle.ep_pad.proofs.Waking.{first, found-full, was-kept, legal-found, settled-told, stopped-kept, stops, stands-closed, stands-shut, unbegun, unread, woken}
 use Rattle.ep_pad.proofs.machine.PadMachine.restart.Goals as goal
 
 -- ---- the file did not open
@@ -126,15 +127,12 @@ returns-in_err-self-inside-clause-full g c =
     let o = c.in_ok-restart.ensures.opens k told in (
       o.0,
       o.1,
-      λ at n m.
-          let held = o.2.records at.records m.stands in
-          let begun = c.in_err-self-inside.ensures.begins at.records held (legal-found at false c.self.inside.limits m.kept m.limits) in
+      λ at n m. rw (p.1, p.2) (λ full.
+          let begun = c.in_err-self-inside.ensures.begins at.records (o.2.records at.records m.stands) (legal-found at false c.self.inside.limits m.kept m.limits) in
           let few = m.few in
           let later = c.in_ok-restart.ensures.later in
-          let may = subst (MayHold _ at.records) (sym m.settled) (holds_settled _ _ _ at.records c.in_ok-restart.ensures.ready.held held) in
-          let u = stands-shut g.D.Disk.told g.D.Device.failures at _ _ _ refl
-          (unbegun g.D.Disk.told g.D.Device.failures _ at.faults at _ _ false _ (settled-told at false m.kept) (record { shut = m.shut; limits = m.limits; faults = refl }) (omega (arith, few, later)) may begun.0) in
-          rw (p.1, p.2) (λ full. (u.0, u.1, u.2)),
+          let z = found-full g.D.Disk.told g.D.Device.failures c.self.inside.limits at _ _ n _ full (settled-told at false m.kept) m.limits m.shut m.settled (omega (arith, few, later)) begun.0 in
+          (with_faults at _, z.0, stands-closed g.D.Disk.told g.D.Device.failures (with_faults at _) _ refl z.1 z.2)),
     ))
 
 pub returns-clause-full : goal.returns-clause-full
