@@ -1,6 +1,6 @@
 -- What a walk on a pad tells of a birth.
 use Rattle.std.proofs.Common.{◌≡◌, ℕ, zero, suc, ◌+◌, ◌-◌, ◌^◌, ◌<◌, ◌≤◌, Bool, true, false, if◌then◌else◌, List, [], ◌∷◌, ◌++◌, length, take, drop, Option, Some, None, refl, sym, ap, ◌∙◌, subst, append_assoc, append-nil, ◌⊎◌, inl, inr, arith}
-use Rattle.std.specs.Prelude.{◌==◌, nat_lt, Result, Ok, Err}
+use Rattle.std.specs.Prelude.{◌==◌, ◌*◌, nat_lt, Result, Ok, Err}
 use Rattle.std.proofs.lemmas.Bool.Decides.{nat_tests}
 use Rattle.ep_units.specs.declared.session.Session.{Session}
 use Rattle.ep_cs.specs.Change.{Change}
@@ -44,7 +44,7 @@ Stands xs i (y ∷ ys) = (at xs i ≡ Some y) × Stands xs (suc i) ys
 
 stands_all : {A : Type 0} (xs : List A) (i : ℕ) (ys : List A) → ((j : ℕ) (v : A) → at ys j ≡ Some v → at xs (j + i) ≡ Some v) → Stands xs i ys
 stands_all xs i [] h = tt
-stands_all xs i (y ∷ ys) h = (h zero y refl, stands_all xs (suc i) ys (λ j v e. subst (λ n. at xs n ≡ Some v) (omega arith) (h (suc j) v e)))
+stands_all xs i (y ∷ ys) h = (subst (λ (n : ℕ). at xs n ≡ Some y) (omega arith) (h zero y refl), stands_all xs (suc i) ys (λ j v e. subst (λ n. at xs n ≡ Some v) (omega arith) (h (suc j) v e)))
 
 take_back : {A : Type 0} (n : ℕ) (ys : List A) (j : ℕ) (v : A) → at (take n ys) j ≡ Some v → at ys j ≡ Some v
 take_back zero ys j v e = none_some e
@@ -53,9 +53,9 @@ take_back (suc n) (y ∷ ys) zero v e = e
 take_back (suc n) (y ∷ ys) (suc j) v e = take_back n ys j v e
 
 drop_back : {A : Type 0} (i : ℕ) (ys : List A) (j : ℕ) (v : A) → at (drop i ys) j ≡ Some v → at ys (i + j) ≡ Some v
-drop_back zero ys j v e = e
-drop_back (suc i) [] j v e = none_some e
-drop_back (suc i) (y ∷ ys) j v e = drop_back i ys j v e
+drop_back i [] j v e = none_some e
+drop_back zero (y ∷ ys) j v e = subst (λ (n : ℕ). at (y ∷ ys) n ≡ Some v) (omega arith) e
+drop_back (suc i) (y ∷ ys) j v e = subst (λ (n : ℕ). at (y ∷ ys) n ≡ Some v) (omega arith) (drop_back i ys j v e)
 
 stands_taken : {A : Type 0} (xs ys : List A) (i n h : ℕ) → ys ≡ take n (drop i (take h xs)) → Stands xs i ys
 stands_taken xs ys i n h is =
@@ -219,7 +219,7 @@ tell_tells b s at v mine next there ms cursor h = go (nat_lt at.rev at.caught) (
 abbrev pub IsTold : ℕ → Birth → Session → List Did → Type 0
 IsTold k b s log = AreTold k b s (all_calls (calls_of log))
 
-passed : (k : ℕ) (b : Birth) (s : Session) (did d : Did) (log : List Did) → did ≡ d → calls_of (d ∷ log) ≡ calls_of log → IsTold k b s (did ∷ log) → IsTold k b s log
+pub passed : (k : ℕ) (b : Birth) (s : Session) (did d : Did) (log : List Did) → did ≡ d → calls_of (d ∷ log) ≡ calls_of log → IsTold k b s (did ∷ log) → IsTold k b s log
 passed k b s did d log is none h = subst (λ l. AreTold k b s (all_calls l)) (ap (λ x. calls_of (x ∷ log)) is ∙ none) h
 
 pub along : (k : ℕ) (b : Birth) (s : Session) → head b < 2 ^ 64 → (at : Place) (due : List Duty) (log : List Did) (out : Outcome) → at.me ≡ s → IsDue b s at.rev due → IsTold k b s log → Runs at due log out → Goes b s at (place_at out) (said_of log)

@@ -1,5 +1,5 @@
 -- A walk from its first receive, up to the login or the resumption and on from there.
-use Rattle.std.proofs.Common.{◌≡◌, ℕ, suc, ◌^◌, ◌<◌, ◌≤◌, Bool, true, false, if◌then◌else◌, List, [], ◌∷◌, ◌++◌, map, length, Option, Some, None, refl, sym, ap, ◌∙◌, subst, append_assoc, append-nil, ◌⊎◌, inl, inr}
+use Rattle.std.proofs.Common.{◌≡◌, ℕ, suc, ◌^◌, ◌<◌, ◌≤◌, Bool, true, false, if◌then◌else◌, List, [], ◌∷◌, ◌++◌, map, length, Option, Some, None, refl, sym, ap, ◌∙◌, subst, true≢false, append_assoc, append-nil, ◌⊎◌, inl, inr}
 use Rattle.std.specs.Prelude.{◌==◌, Result, Ok, Err}
 use Rattle.ep_units.specs.declared.grant.Grant.{Grant}
 use Rattle.ep_units.specs.declared.session.Session.{Session}
@@ -48,7 +48,7 @@ law_passed : (pad : PadState) (out : Outcome) (did d : Did) (log : List Did) →
 law_passed pad out did d log is none h inside = subst (TellsHistory pad (place_at out)) (sym (ap (λ x. said_by x ++ said_of log) is ∙ ap (λ l. l ++ said_of log) none)) (h inside)
 
 outside : {Z : Type 0} (at : Place) (out : Outcome) → at.inside ≡ false → place_at out ≡ at → (place_at out).inside ≡ true → Z
-outside at out o is inside = absurd (cc (sym o) (ap (λ (p : Place). p.inside) is) inside)
+outside at out o is inside = absurd (true≢false (sym inside ∙ ap (λ (p : Place). p.inside) is ∙ o))
 
 -- it ended outside
 ended : (pad : PadState) (at to : Place) (e : End) (out o : Outcome) (log : List Did) → at.inside ≡ false → Ends to e ≡ o → place_at o ≡ at → out ≡ Ends to e → IsLaw pad out log
@@ -111,7 +111,7 @@ rejoined_law pad at to more did log out grant again now (Ok c) is same one r ins
 rejoined_law pad at to more did log out grant again now (Err bad) is same one r inside = absurd (not_both to at more _ same)
 
 joined : (pad : PadState) (at : Place) (grant : Grant) (log : List Did) (out : Outcome) → at.inside ≡ false → (resume : Option Resume) → AreOne pad log → Runs at (joining grant resume ∷ []) log out → IsLaw pad out log
-joined pad at grant [] out outer resume one r inside = outside at out outer (ap place_at r) inside
+joined pad at grant [] out outer resume one r = λ inside. outside at out outer (ap place_at r) inside
 joined pad at grant (did ∷ log) out outer None one (inl (to, more, (now, g, is, same), r)) = welcomed_law pad at to more did log out grant now g is same one r
 joined pad at grant (did ∷ log) out outer (Some again) one (inl (to, more, (now, g, is, same), r)) = rejoined_law pad at to more did log out grant again now g is same one r
 joined pad at grant (did ∷ log) out outer None one (inr (to, e, (now, g, is, same), nil, isout)) = refused g same
@@ -126,7 +126,7 @@ joined pad at grant (did ∷ log) out outer (Some again) one (inr (to, e, (now, 
     refused (Err bad) same = ended pad at to e out _ (did ∷ log) outer same refl isout
 
 enters : (pad : PadState) (at : Place) (grant : Grant) (resume : Option Resume) (log : List Did) (out : Outcome) → at.inside ≡ false → AreOne pad log → Runs at (Enter grant resume ∷ []) log out → IsLaw pad out log
-enters pad at grant resume [] out outer one r inside = outside at out outer (ap place_at r) inside
+enters pad at grant resume [] out outer one r = λ inside. outside at out outer (ap place_at r) inside
 enters pad at grant resume (did ∷ log) out outer one (inl (to, more, (g, is, same), r)) = go g same
   where
     go : (x : Answer PadBad) → Then to more ≡ entered at grant resume x → IsLaw pad out (did ∷ log)
@@ -139,7 +139,7 @@ enters pad at grant resume (did ∷ log) out outer one (inr (to, e, (g, is, same
     go (Err bad) same = ended pad at to e out _ (did ∷ log) outer same refl isout
 
 asks : (pad : PadState) (at : Place) (drawn : Drawn) (ready : Ready) (log : List Did) (out : Outcome) → at.inside ≡ false → AreOne pad log → Runs at (Ask drawn ready ∷ []) log out → IsLaw pad out log
-asks pad at drawn ready [] out outer one r inside = outside at out outer (ap place_at r) inside
+asks pad at drawn ready [] out outer one r = λ inside. outside at out outer (ap place_at r) inside
 asks pad at drawn ready (did ∷ log) out outer one (inl (to, more, (now, g, is, same), r)) = go g same
   where
     go : (x : Result Grant DirBad) → Then to more ≡ granted at ready x → IsLaw pad out (did ∷ log)
@@ -152,7 +152,7 @@ asks pad at drawn ready (did ∷ log) out outer one (inr (to, e, (now, g, is, sa
     go (Err bad) same = ended pad at to e out _ (did ∷ log) outer same refl isout
 
 begins : (pad : PadState) (at : Place) (drawn : Drawn) (text : List ℕ) (log : List Did) (out : Outcome) → at.inside ≡ false → AreOne pad log → Runs at (Begin drawn text ∷ []) log out → IsLaw pad out log
-begins pad at drawn text [] out outer one r inside = outside at out outer (ap place_at r) inside
+begins pad at drawn text [] out outer one r = λ inside. outside at out outer (ap place_at r) inside
 begins pad at drawn text (did ∷ log) out outer one (inl (to, more, (g, reads, is, same), r)) = go g same
   where
     go : (x : Result ClientMsg WireBad) → Then to more ≡ begun at drawn x → IsLaw pad out (did ∷ log)
@@ -166,17 +166,17 @@ begins pad at drawn text (did ∷ log) out outer one (inl (to, more, (g, reads, 
 begins pad at drawn text (did ∷ log) out outer one (inr (to, e, (g, reads, is, same), nil, isout)) = ended pad at to e out (begun at drawn g) (did ∷ log) outer same (begun_place at drawn g) isout
 
 pub from_outside : (pad : PadState) (at : Place) (drawn : Drawn) (log : List Did) (out : Outcome) → at.inside ≡ false → AreOne pad log → Runs at (Greet drawn ∷ []) log out → IsLaw pad out log
-from_outside pad at drawn [] out outer one r inside = outside at out outer (ap place_at r) inside
-from_outside pad at drawn (did ∷ log) out outer one (inl (to, more, (g, n, is, same), r)) = go g same
+from_outside pad at drawn [] out outer one r = λ inside. outside at out outer (ap place_at r) inside
+from_outside pad at drawn (did ∷ log) out outer one (inl (to, more, (g, n, is, same), r)) = go g same (λ again. from_outside pad at drawn log out outer (one_passed pad did (Heard g n) log is refl one) again)
   where
     rest : AreOne pad log
     rest = one_passed pad did (Heard g n) log is refl one
 
-    go : (x : LinkGot) → Then to more ≡ greeted at drawn x n → IsLaw pad out (did ∷ log)
-    go (got.Message text) same = law_passed pad out did (Heard g n) log is refl (begins pad at drawn text log out outer rest (moved to at more (Begin drawn text ∷ []) log out same [] r))
-    go got.Binary same = absurd (not_both to at more _ same)
-    go got.Nothing same = law_passed pad out did (Heard g n) log is refl (from_outside pad at drawn log out outer rest (moved to at more (Greet drawn ∷ []) log out same [] r))
-    go got.Closed same = absurd (not_both to at more _ same)
-    go got.Failed same = absurd (not_both to at more _ same)
-    go got.NoMemory same = absurd (not_both to at more _ same)
+    go : (x : LinkGot) → Then to more ≡ greeted at drawn x n → (Runs at (Greet drawn ∷ []) log out → IsLaw pad out log) → IsLaw pad out (did ∷ log)
+    go (got.Message text) same ih = law_passed pad out did (Heard g n) log is refl (begins pad at drawn text log out outer rest (moved to at more (Begin drawn text ∷ []) log out same [] r))
+    go got.Binary same ih = absurd (not_both to at more _ same)
+    go got.Nothing same ih = law_passed pad out did (Heard g n) log is refl (ih (moved to at more (Greet drawn ∷ []) log out same [] r))
+    go got.Closed same ih = absurd (not_both to at more _ same)
+    go got.Failed same ih = absurd (not_both to at more _ same)
+    go got.NoMemory same ih = absurd (not_both to at more _ same)
 from_outside pad at drawn (did ∷ log) out outer one (inr (to, e, (g, n, is, same), nil, isout)) = ended pad at to e out (greeted at drawn g n) (did ∷ log) outer same (greeted_place at drawn g n) isout
