@@ -53,15 +53,16 @@ take_back (suc n) (y ∷ ys) zero v e = e
 take_back (suc n) (y ∷ ys) (suc j) v e = take_back n ys j v e
 
 drop_back : {A : Type 0} (i : ℕ) (ys : List A) (j : ℕ) (v : A) → at (drop i ys) j ≡ Some v → at ys (i + j) ≡ Some v
-drop_back i [] j v e = none_some e
-drop_back zero (y ∷ ys) j v e = subst (λ (n : ℕ). at (y ∷ ys) n ≡ Some v) (omega arith) e
-drop_back (suc i) (y ∷ ys) j v e = subst (λ (n : ℕ). at (y ∷ ys) n ≡ Some v) (omega arith) (drop_back i ys j v e)
+drop_back zero [] j v e = none_some e
+drop_back (suc i) [] j v e = none_some e
+drop_back zero (y ∷ ys) j v e = let s : j ≡ 0 + j = omega arith in subst (λ (n : ℕ). at (y ∷ ys) n ≡ Some v) s e
+drop_back (suc i) (y ∷ ys) j v e = let s : suc (i + j) ≡ suc i + j = omega arith in subst (λ (n : ℕ). at (y ∷ ys) n ≡ Some v) s (drop_back i ys j v e)
 
 stands_taken : {A : Type 0} (xs ys : List A) (i n h : ℕ) → ys ≡ take n (drop i (take h xs)) → Stands xs i ys
 stands_taken xs ys i n h is =
     stands_all xs i ys (λ j v e.
-        subst (λ m. at xs m ≡ Some v) (omega arith)
-        (take_back h xs (i + j) v (drop_back i (take h xs) j v (take_back n (drop i (take h xs)) j v (subst (λ zs. at zs j ≡ Some v) is e)))))
+    subst (λ m. at xs m ≡ Some v) (omega arith)
+    (take_back h xs (i + j) v (drop_back i (take h xs) j v (take_back n (drop i (take h xs)) j v (subst (λ zs. at zs j ≡ Some v) is e)))))
 
 -- ---- numbers
 
@@ -161,10 +162,14 @@ fetched_keeps : (b : Birth) (s : Session) (at : Place) (due : List Duty) (r : Re
 fetched_keeps b s at due (Ok f) few mine was q =
     let x = was mine in
     let news = news_due at.rev f.revs.items f.nops.items in
-    let after = if is_full at f then [] else (Fetch ∷ []) in
-    (refl, refl, refl, refl,
-    subst (IsDue b s at.rev) (sym (append_assoc news after due))
-    (news_on b s at.rev f.revs.items f.nops.items (after ++ due) few (stands_taken b.later f.revs.items at.rev 64 f.head x.revs) (after_on b s (is_full at f) due q)))
+    let after = if is_full at f then [] else (Fetch ∷ []) in (
+      refl,
+      refl,
+      refl,
+      refl,
+      subst (IsDue b s at.rev) (sym (append_assoc news after due))
+          (news_on b s at.rev f.revs.items f.nops.items (after ++ due) few (stands_taken b.later f.revs.items at.rev 64 f.head x.revs) (after_on b s (is_full at f) due q)),
+    )
 fetched_keeps b s at due (Err bad) few mine was q = refl
 
 -- ---- what is said

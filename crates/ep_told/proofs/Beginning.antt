@@ -81,11 +81,14 @@ welcomed_law pad at to more did log out grant now (Ok w) is same one r inside =
     let entered = h.0 refl in
     let due = Say (vars grant w) ∷ Fetch ∷ Hear ∷ [] in
     let run : Runs place due log out = moved to place more due log out same [] r in
-    let walk = λ (few : head b < 2 ^ 64). along k b w.session few place due log out refl ((λ ms cursor t. (refl, entered.doc, t)), λ n m. tt) h.1 run in
-    (k, o.1, λ few. let g = walk few in
-        subst (λ (s : Session). Tells b s (place_at out).start (said_of (did ∷ log)) (place_at out).rev) (sym g.same)
-        (subst (λ (n : ℕ). Tells b w.session n (said_of (did ∷ log)) (place_at out).rev) (sym g.start)
-        (subst (λ (x : Did). Tells b w.session w.rev (said_of (x ∷ log)) (place_at out).rev) (sym is) g.tells)))
+    let walk = λ (few : head b < 2 ^ 64). along k b w.session few place due log out refl ((λ ms cursor t. (refl, entered.doc, t)), λ n m. tt) h.1 run in (
+      k,
+      o.1,
+      λ few. let g = walk few in
+          subst (λ (s : Session). Tells b s (place_at out).start (said_of (did ∷ log)) (place_at out).rev) (sym g.same)
+          (subst (λ (n : ℕ). Tells b w.session n (said_of (did ∷ log)) (place_at out).rev) (sym g.start)
+          (subst (λ (x : Did). Tells b w.session w.rev (said_of (x ∷ log)) (place_at out).rev) (sym is) g.tells)),
+    )
 welcomed_law pad at to more did log out grant now (Err bad) is same one r inside = absurd (not_both to at more _ same)
 
 missed_due : (c : CatchUp) (b : Birth) (s : Session) (rev : ℕ) (none : Bool) → IsDue b s rev (map Say (if none then msg.ReconnectNone c.session c.birth c.head c.head ∷ [] else []) ++ Fetch ∷ Hear ∷ [])
@@ -103,11 +106,14 @@ rejoined_law pad at to more did log out grant again now (Ok c) is same one r ins
     let h = subst (λ x. IsTold k b c.session (x ∷ log)) is o.2 in
     let due = map Say (none_missed again.rev c) ++ Fetch ∷ Hear ∷ [] in
     let run : Runs place due log out = subst (λ d. Runs place d log out) (append-nil due) (moved to place more due log out same [] r) in
-    let walk = λ (few : head b < 2 ^ 64). along k b c.session few place due log out refl (missed_due c b c.session again.rev (again.rev == c.head)) h.1 run in
-    (k, o.1, λ few. let g = walk few in
-        subst (λ (s : Session). Tells b s (place_at out).start (said_of (did ∷ log)) (place_at out).rev) (sym g.same)
-        (subst (λ (n : ℕ). Tells b c.session n (said_of (did ∷ log)) (place_at out).rev) (sym g.start)
-        (subst (λ (x : Did). Tells b c.session again.rev (said_of (x ∷ log)) (place_at out).rev) (sym is) g.tells)))
+    let walk = λ (few : head b < 2 ^ 64). along k b c.session few place due log out refl (missed_due c b c.session again.rev (again.rev == c.head)) h.1 run in (
+      k,
+      o.1,
+      λ few. let g = walk few in
+          subst (λ (s : Session). Tells b s (place_at out).start (said_of (did ∷ log)) (place_at out).rev) (sym g.same)
+          (subst (λ (n : ℕ). Tells b c.session n (said_of (did ∷ log)) (place_at out).rev) (sym g.start)
+          (subst (λ (x : Did). Tells b c.session again.rev (said_of (x ∷ log)) (place_at out).rev) (sym is) g.tells)),
+    )
 rejoined_law pad at to more did log out grant again now (Err bad) is same one r inside = absurd (not_both to at more _ same)
 
 joined : (pad : PadState) (at : Place) (grant : Grant) (log : List Did) (out : Outcome) → at.inside ≡ false → (resume : Option Resume) → AreOne pad log → Runs at (joining grant resume ∷ []) log out → IsLaw pad out log

@@ -4,6 +4,7 @@ use Rattle.ep_units.specs.declared.session.Session.{Session}
 use Rattle.ep_cell.specs.History.{calls_by, pairs}
 use Rattle.ep_cell.specs.declared.view.Call.{Call}
 use Rattle.ep_history.specs.History.{Birth}
+use Rattle.ep_history.specs.Pad.{birth_at}
 use Rattle.ep_history.proofs.Steps.{first-kept}
 use Rattle.ep_fetches.specs.Told.{AreTold}
 use Rattle.ep_fetches.proofs.Whole.{run-told}
@@ -29,6 +30,6 @@ returns g c = λ begun pass drawn log out told legal runs mine inside.
     let l = legal.0 told in
     let all = all_calls (pairs pass.seen) in
     let one : AreOne l.1.pad log = λ s.
-        let t = run-told size l.0 l.1 all s (first-kept l.0 l.2.first) l.3 in
-        (t.0, t.1, subst (λ calls. AreTold t.0 _ s (all_calls calls)) mine (told_own pass.number t.0 _ s pass.seen t.2)) in
+    let t = run-told size l.0 l.1 all s (first-kept l.0 l.2.first) l.3 in
+    (t.0, t.1, subst (λ calls. AreTold t.0 (birth_at l.1.pad t.0) s (all_calls calls)) mine (told_own pass.number t.0 (birth_at l.1.pad t.0) s pass.seen t.2)) in
     (l.0, l.1, l.2, l.3, from_outside l.1.pad nowhere drawn log out refl one runs inside)
