@@ -137,6 +137,6 @@ stand_after {Pass = Pass} limits told failures begun is_of known xs mid ys e kin
     subst P (sym pushed) (All-push (Stands is_of limits told failures begun known) mid new (subst P (sym same) all)
     (record {
       of = of;
-      limits = ap (λ b. b.limits) stays ∙ stands.limits;
+      held = ap (λ b. b.limits) stays ∙ stands.held;
       legal = subst (λ b. IsLegalFrom told failures b (pairs (known new).seen)) (sym stays) (legal_after (IsLegalFrom told failures (begun old)) (known old) (known new) e kind x asks stands.legal);
     }))

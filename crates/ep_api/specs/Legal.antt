@@ -29,5 +29,5 @@ pub record Waits {Hall : Type 0} (is_hall : Hall → Type 0) (is_register : List
 -- a pass of a pad, which is held to these limits
 pub record Stands {Pass D : Type 0} (is_of : Pass → Type 0) (limits : Limits) (told : D → Option Contents) (failures : D → ℕ) (begun : Pass → Held D) (known : Pass → Known PadEntry PadReply) (pass : Pass) : Type 0 where
   pub of : is_of pass
-  pub limits : (begun pass).limits ≡ limits
+  pub held : (begun pass).limits ≡ limits
   pub legal : IsLegalFrom told failures (begun pass) (pairs (known pass).seen)

@@ -1,12 +1,11 @@
 //! One request of the API, and its reply.
 
-ghost use Rattle.std.specs.Prelude.{◌≡◌, ◌≤◌, ◌⊎◌, Err, IsTrue, IfOk, IfErr, OnOk, string_bytes};
-ghost use Rattle.ep_outside.specs.Outside.{HasRisen, Takes, TakesPart};
+ghost use Rattle.std.specs.Prelude.{◌≡◌, ◌≤◌, Err, IsTrue, IfOk, IfErr, string_bytes};
 ghost use Rattle.ep_http.specs.Replies.{is_status};
 ghost use Rattle.ep_api.specs.Legal.{Sits, Stands, Waits};
-ghost use Rattle.ep_serve.specs.Asked.{Answers, IsDue, IsRefusal, IsUndue, Tells, bytes_of};
+ghost use Rattle.ep_serve.specs.Asked.{Answers, IsDue, IsRefusal, IsUndue, Tells, Writes, reply_in};
 
-use ep_api::answer;
+use ep_api::{Answered, answer};
 use ep_ask::Reply;
 use ep_groups::DirPort;
 use ep_http::{HttpBad, Request, SinkBad, read_request, refusal, write_reply};
@@ -32,6 +31,32 @@ pub enum Unanswered {
     NoMemory,
 }
 
+/// What is due to a caller whose request was read, or refused.
+#[derive(Drop)]
+pub enum Due<O, B, A> {
+    /// What came of the request, with the passes by which it was done.
+    Done(Answered<O, B, A>),
+    Refused(Reply),
+}
+
+impl<O, B, A> Due<O, B, A> {
+    fn reply(&self) -> &Reply
+        ensures { result.now ≡ reply_in self.now }
+    {
+        match self {
+            Due::Done(answered) => &answered.reply,
+            Due::Refused(reply) => reply,
+        }
+    }
+}
+
+/// What was due to a caller, and whether it was told.
+#[derive(Drop)]
+pub struct Came<O, B, A> {
+    pub due: Due<O, B, A>,
+    pub told: Result<(), Unanswered>,
+}
+
 impl From<NoMemory> for Unanswered {
     ghost use Rattle.ep_serve.specs.declared.asked.Unanswered.TheVariants as bad;
 
@@ -45,12 +70,8 @@ impl From<NoMemory> for Unanswered {
 // Writes a reply.
 fn write<K: Sink>(alloc: Global, sink: &mut K, due: &Reply) -> Result<(), Unanswered>
     requires { IsTrue (is_status due.now.status) }
-    ensures ok { OnOk result (Takes (K.held sink.old) (K.held sink.new) (bytes_of due.now)) }
-    ensures part { result ≡ Err Unanswered.Reply → TakesPart (K.held sink.old) (K.held sink.new) (bytes_of due.now) }
-    ensures cause { result ≡ Err Unanswered.Reply → HasRisen (K.failures sink.old) (K.failures sink.new) }
+    ensures writes { Writes K.held K.failures sink.old sink.new due.now result }
     ensures later { K.failures sink.old ≤ K.failures sink.new }
-    ensures unwritten { result ≡ Err Unanswered.NoMemory → sink.new ≡ sink.old }
-    ensures known { IfErr result (λ e. (e ≡ Unanswered.Reply) ⊎ (e ≡ Unanswered.NoMemory)) }
 {
     match write_reply(alloc, sink, due.status, &due.body) {
         Ok(()) => Ok(()),
@@ -82,9 +103,9 @@ fn carry_out<R: Wait, P: PadPort, G: DirPort, C: Clock, D: Draws>(
     draws: &mut D,
     key: &str,
     request: &Request,
-) -> Result<Reply, Unanswered>
-    ensures due { IfOk result (Tells P.hall_known G.known P.known P.name_of P.cell_of (Waits (P.is_hall pads.now) (P.is_register (P.limits_of pads.now)) P.hall_known) (Sits (G.is_of dir.now) G.Store.always_tells (G.begun dir.now) G.known) (Stands (P.is_of pads.now) (P.limits_of pads.now) P.Store.told P.Store.failures P.begun P.known) (C.may_show clock.now) key.now (D.to_come draws.old) (D.to_come draws.new) request.now) }
-    ensures status { IfOk result (λ r. IsTrue (is_status r.status)) }
+) -> Result<Answered<P::Hall, G::Pass, P::Pass>, Unanswered>
+    ensures tells { IfOk result (Tells P.hall_known G.known P.known P.name_of P.cell_of (Waits (P.is_hall pads.now) (P.is_register (P.limits_of pads.now)) P.hall_known) (Sits (G.is_of dir.now) G.Store.always_tells (G.begun dir.now) G.known) (Stands (P.is_of pads.now) (P.limits_of pads.now) P.Store.told P.Store.failures P.begun P.known) (C.may_show clock.now) key.now (D.to_come draws.old) (D.to_come draws.new) request.now) }
+    ensures status { IfOk result (λ a. IsTrue (is_status a.reply.status)) }
     ensures undue { IfErr result (λ e. e ≡ Unanswered.NoMemory) }
 {
     let answered = answer(
@@ -98,10 +119,10 @@ fn carry_out<R: Wait, P: PadPort, G: DirPort, C: Clock, D: Draws>(
         key,
         clock.now_ms(),
     )?;
-    Ok(answered.reply)
+    Ok(answered)
 }
 
-// The reply that is due to what was read of a caller.
+// What is due to what was read of a caller.
 fn due<R: Wait, P: PadPort, G: DirPort, C: Clock, D: Draws>(
     rt: &R,
     alloc: Global,
@@ -111,18 +132,25 @@ fn due<R: Wait, P: PadPort, G: DirPort, C: Clock, D: Draws>(
     draws: &mut D,
     key: &str,
     read: Result<Request, HttpBad>,
-) -> Result<Reply, Unanswered>
+) -> Result<Due<P::Hall, G::Pass, P::Pass>, Unanswered>
     ensures due { IfOk result (IsDue P.hall_known G.known P.known P.name_of P.cell_of (Waits (P.is_hall pads.now) (P.is_register (P.limits_of pads.now)) P.hall_known) (Sits (G.is_of dir.now) G.Store.always_tells (G.begun dir.now) G.known) (Stands (P.is_of pads.now) (P.limits_of pads.now) P.Store.told P.Store.failures P.begun P.known) (C.may_show clock.now) key.now (D.to_come draws.old) (D.to_come draws.new) read) }
-    ensures status { IfOk result (λ r. IsTrue (is_status r.status)) }
+    ensures status { IfOk result (λ d. IsTrue (is_status (reply_in d).status)) }
     ensures undue { IfErr result (IsUndue read) }
 {
     match read {
-        Ok(request) => carry_out(rt, alloc, pads, dir, clock, draws, key, &request),
-        Err(why) => refuse(alloc, why),
+        Ok(request) => match carry_out(rt, alloc, pads, dir, clock, draws, key, &request) {
+            Ok(answered) => Ok(Due::Done(answered)),
+            Err(why) => Err(why),
+        },
+        Err(why) => match refuse(alloc, why) {
+            Ok(reply) => Ok(Due::Refused(reply)),
+            Err(undue) => Err(undue),
+        },
     }
 }
 
-/// Reads a caller's request, does what it asks for, and replies. Where the request is refused, the reply says so.
+/// Reads a caller's request, does what it asks for, and replies. Where the request is refused, the reply says so. The
+/// passes by which the request was done are handed back.
 pub fn answer_caller<R: Wait, P: PadPort, G: DirPort, A: Source + Sink, C: Clock, D: Draws>(
     rt: &R,
     alloc: Global,
@@ -132,13 +160,16 @@ pub fn answer_caller<R: Wait, P: PadPort, G: DirPort, A: Source + Sink, C: Clock
     clock: &C,
     draws: &mut D,
     key: &str,
-) -> Result<(), Unanswered>
+) -> Result<Came<P::Hall, G::Pass, P::Pass>, Unanswered>
     ensures answers { Answers P.hall_known G.known P.known P.name_of P.cell_of (Waits (P.is_hall pads.now) (P.is_register (P.limits_of pads.now)) P.hall_known) (Sits (G.is_of dir.now) G.Store.always_tells (G.begun dir.now) G.known) (Stands (P.is_of pads.now) (P.limits_of pads.now) P.Store.told P.Store.failures P.begun P.known) (C.may_show clock.now) key.now (D.to_come draws.old) (D.to_come draws.new) A.left A.held A.failures caller.old caller.new result }
     ensures later { A.failures caller.old ≤ A.failures caller.new }
 {
     let read = read_request(alloc, caller, MOST_BODY);
     match due(rt, alloc, pads, dir, clock, draws, key, read) {
-        Ok(reply) => write(alloc, caller, &reply),
+        Ok(due) => {
+            let told = write(alloc, caller, due.reply());
+            Ok(Came { due, told })
+        }
         Err(why) => Err(why),
     }
 }

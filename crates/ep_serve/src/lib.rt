@@ -9,6 +9,6 @@ mod asked;
 mod server;
 mod work;
 
-pub use asked::{Unanswered, answer_caller};
+pub use asked::{Came, Due, Unanswered, answer_caller};
 pub use server::Server;
-pub use work::{Asking, Sitting, Work};
+pub use work::{Asking, Sat, SatOf, Serving, Sitting, Told, ToldOf, Work};

@@ -1,6 +1,10 @@
 //! What all callers of a server share.
 
-use crate::work::{Asking, Sitting, Work};
+ghost use Rattle.std.specs.Prelude.{◌≡◌, IfOk};
+ghost use Rattle.std.specs.Arc.{arc_value};
+ghost use Rattle.ep_serve.specs.Server.{IfApi, IfPad};
+
+use crate::work::{Asking, Serving, Sitting, Work};
 use ep_doors::Host;
 use ep_groups::DirPort;
 use ep_link::{Ear, Link};
@@ -42,7 +46,12 @@ impl<P: Drop, E: Ear, C: Drop, D: Drop> Server<P, E, C, D> {
         clock: C,
         draws: D,
         key: String,
-    ) -> Result<Server<P, E, C, D>, NoMemory> {
+    ) -> Result<Server<P, E, C, D>, NoMemory>
+        ensures port { IfOk result (λ s. arc_value s.port ≡ port) }
+        ensures clock { IfOk result (λ s. arc_value s.clock ≡ clock) }
+        ensures draws { IfOk result (λ s. s.draws ≡ draws) }
+        ensures key { IfOk result (λ s. arc_value s.key ≡ key) }
+    {
         Ok(Server {
             alloc,
             port: Arc::new(alloc, port)?,
@@ -54,7 +63,9 @@ impl<P: Drop, E: Ear, C: Drop, D: Drop> Server<P, E, C, D> {
     }
 
     // The pads, for one caller.
-    fn pads(&self, ear: Option<E>) -> Result<Ringing<P, E>, NoMemory> {
+    fn pads(&self, ear: Option<E>) -> Result<Ringing<P, E>, NoMemory>
+        ensures port { IfOk result (λ pads. arc_value pads.pads ≡ arc_value self.now.port) }
+    {
         let port = Arc::try_clone(&self.port)?;
         let bells = Arc::try_clone(&self.bells)?;
         Ok(Ringing::new(port, bells, ear))
@@ -68,9 +79,13 @@ impl<
     C: Clock + Drop,
     D: Draws + Drop,
 > Host<L, A> for Server<P, L::Ear, C, D> {
-    type Work = Work<P, L, A, C, D>;
+    type Work = Serving<P, L, A, C, D>;
 
-    fn pad(&mut self, link: L) -> Result<Work<P, L, A, C, D>, NoMemory> {
+    /// A session on the server's port, over this link, by the server's clock.
+    fn pad(&mut self, link: L) -> Result<Serving<P, L, A, C, D>, NoMemory>
+        ensures work { IfOk result (IfPad (λ sitting. (arc_value sitting.pads.pads ≡ arc_value self.old.port) × (sitting.link ≡ link) × (arc_value sitting.clock ≡ arc_value self.old.clock) × (D.to_come sitting.draws ≡ D.to_come self.old.draws))) }
+        ensures server { (self.new.port ≡ self.old.port) × (self.new.clock ≡ self.old.clock) × (self.new.key ≡ self.old.key) × (D.to_come self.new.draws ≡ D.to_come self.old.draws) }
+    {
         Ok(Work::Pad(Sitting {
             alloc: self.alloc,
             pads: self.pads(link.ear())?,
@@ -80,7 +95,11 @@ impl<
         }))
     }
 
-    fn api(&mut self, caller: A) -> Result<Work<P, L, A, C, D>, NoMemory> {
+    /// One request at the server's port, by its clock and its key.
+    fn api(&mut self, caller: A) -> Result<Serving<P, L, A, C, D>, NoMemory>
+        ensures work { IfOk result (IfApi (λ asking. (arc_value asking.pads.pads ≡ arc_value self.old.port) × (asking.caller ≡ caller) × (arc_value asking.clock ≡ arc_value self.old.clock) × (arc_value asking.key ≡ arc_value self.old.key) × (D.to_come asking.draws ≡ D.to_come self.old.draws))) }
+        ensures server { (self.new.port ≡ self.old.port) × (self.new.clock ≡ self.old.clock) × (self.new.key ≡ self.old.key) × (D.to_come self.new.draws ≡ D.to_come self.old.draws) }
+    {
         Ok(Work::Api(Asking {
             alloc: self.alloc,
             pads: self.pads(None)?,

@@ -1,13 +1,15 @@
 //! What is done for a caller.
 
-use crate::asked::answer_caller;
+ghost use Rattle.ep_serve.specs.Work.{HasSat};
+
+use crate::asked::{Came, Unanswered, answer_caller};
 use ep_doors::Job;
 use ep_groups::DirPort;
 use ep_link::{Ear, Link};
 use ep_outside::{Clock, Draws, Sink, Source};
 use ep_pad::PadPort;
-use ep_ring::Ringing;
-use ep_session::serve_session;
+use ep_ring::{RingPass, Ringing};
+use ep_session::{Report, serve_session};
 use std::alloc::Global;
 use std::sync::{Arc, Wait};
 
@@ -21,9 +23,35 @@ pub struct Sitting<P: Drop, L: Link + Drop, C: Drop, D: Drop> {
     pub(crate) draws: D,
 }
 
-impl<P: PadPort + DirPort + Drop, L: Link + Drop, C: Clock + Drop, D: Draws + Drop> Job
-    for Sitting<P, L, C, D> {
-    fn go<R: Wait>(self, rt: &R) {
+/// What a caller of pads leaves: what the session was, its link and its draws.
+#[derive(Drop)]
+pub struct Sat<O, A, B, L, D> {
+    pub report: Report<O, A, B>,
+    pub link: L,
+    pub draws: D,
+}
+
+/// What is left of a caller of pads of this port.
+pub type SatOf<P, L, D> = Sat<
+    <P as PadPort>::Hall,
+    RingPass<<P as PadPort>::Pass>,
+    <P as DirPort>::Pass,
+    L,
+    D,
+>;
+
+impl<P: PadPort + DirPort + Drop, L: Link + Drop, C: Clock + Drop, D: Draws + Drop> Sitting<
+    P,
+    L,
+    C,
+    D,
+> {
+    ghost use Rattle.std.specs.Arc.{arc_value};
+
+    /// Has a session over the link, by the pads and the directory of the port.
+    pub fn sit<R: Wait>(self, rt: &R) -> SatOf<P, L, D>
+        ensures { HasSat ⟦<P as PadPort>⟧.hall_known ⟦<P as DirPort>⟧.known (λ pass. ⟦<P as PadPort>⟧.known pass.pass) (λ hall. ⟦<P as PadPort>⟧.is_hall (arc_value self.pads.pads) hall) (λ desk. ⟦<P as DirPort>⟧.is_of (arc_value self.pads.pads) desk) (λ pass. ⟦<P as PadPort>⟧.is_of (arc_value self.pads.pads) pass.pass) (C.may_show (arc_value self.clock)) (D.to_come self.draws) (D.to_come result.draws) (L.traffic self.link) (L.traffic result.link) result.report }
+    {
         let Sitting {
             alloc,
             pads,
@@ -40,8 +68,19 @@ impl<P: PadPort + DirPort + Drop, L: Link + Drop, C: Clock + Drop, D: Draws + Dr
             &*clock,
             &mut draws,
         );
-        drop(report);
         pads.end(rt);
+        Sat {
+            report,
+            link,
+            draws,
+        }
+    }
+}
+
+impl<P: PadPort + DirPort + Drop, L: Link + Drop, C: Clock + Drop, D: Draws + Drop> Job
+    for Sitting<P, L, C, D> {
+    fn go<R: Wait>(self, rt: &R) {
+        drop(self.sit(rt));
     }
 }
 
@@ -56,14 +95,43 @@ pub struct Asking<P: Drop, E: Ear, A: Source + Sink + Drop, C: Drop, D: Drop> {
     pub(crate) key: Arc<String>,
 }
 
+/// What a caller of the API leaves: what came of it, its connection and its draws.
+#[derive(Drop)]
+pub struct Told<O, B, A, T, D> {
+    pub answered: Result<Came<O, B, A>, Unanswered>,
+    pub caller: T,
+    pub draws: D,
+}
+
+/// What is left of a caller of the API of this port.
+pub type ToldOf<P, A, D> = Told<
+    <P as PadPort>::Hall,
+    <P as DirPort>::Pass,
+    RingPass<<P as PadPort>::Pass>,
+    A,
+    D,
+>;
+
 impl<
     P: PadPort + DirPort + Drop,
     E: Ear,
     A: Source + Sink + Drop,
     C: Clock + Drop,
     D: Draws + Drop,
-> Job for Asking<P, E, A, C, D> {
-    fn go<R: Wait>(self, rt: &R) {
+> Asking<P, E, A, C, D> {
+    ghost use Rattle.std.specs.Prelude.{string_bytes};
+    ghost use Rattle.std.specs.Arc.{arc_value};
+    ghost use Rattle.ep_api.specs.Legal.{Sits, Stands, Waits};
+    ghost use Rattle.ep_serve.specs.Asked.{Answers};
+
+    /// Reads the one request of the caller, has it done by the pads and the directory of the port, and answers it.
+    pub fn tell<R: Wait>(self, rt: &R) -> ToldOf<P, A, D>
+        ensures { Answers ⟦<P as PadPort>⟧.hall_known ⟦<P as DirPort>⟧.known ⟦<Ringing<P, E> as PadPort>⟧.known ⟦<Ringing<P, E> as PadPort>⟧.name_of ⟦<Ringing<P, E> as PadPort>⟧.cell_of
+            (Waits (⟦<P as PadPort>⟧.is_hall (arc_value self.pads.pads)) (⟦<P as PadPort>⟧.is_register (⟦<P as PadPort>⟧.limits_of (arc_value self.pads.pads))) ⟦<P as PadPort>⟧.hall_known)
+            (Sits (⟦<P as DirPort>⟧.is_of (arc_value self.pads.pads)) ⟦<P as DirPort>⟧.Store.always_tells (⟦<P as DirPort>⟧.begun (arc_value self.pads.pads)) ⟦<P as DirPort>⟧.known)
+            (Stands (⟦<Ringing<P, E> as PadPort>⟧.is_of self.pads) (⟦<P as PadPort>⟧.limits_of (arc_value self.pads.pads)) ⟦<P as PadPort>⟧.Store.told ⟦<P as PadPort>⟧.Store.failures ⟦<Ringing<P, E> as PadPort>⟧.begun ⟦<Ringing<P, E> as PadPort>⟧.known)
+            (C.may_show (arc_value self.clock)) (string_bytes (arc_value self.key)) (D.to_come self.draws) (D.to_come result.draws) A.left A.held A.failures self.caller result.caller result.answered }
+    {
         let Asking {
             alloc,
             pads,
@@ -82,24 +150,34 @@ impl<
             &mut draws,
             key.as_str(),
         );
-        drop(answered);
+        Told {
+            answered,
+            caller,
+            draws,
+        }
     }
-}
-
-/// What is done for a caller at either door.
-#[derive(Drop)]
-pub enum Work<P: Drop, L: Link + Drop, A: Source + Sink + Drop, C: Drop, D: Drop> {
-    Pad(Sitting<P, L, C, D>),
-    Api(Asking<P, L::Ear, A, C, D>),
 }
 
 impl<
     P: PadPort + DirPort + Drop,
-    L: Link + Drop,
+    E: Ear,
     A: Source + Sink + Drop,
     C: Clock + Drop,
     D: Draws + Drop,
-> Job for Work<P, L, A, C, D> {
+> Job for Asking<P, E, A, C, D> {
+    fn go<R: Wait>(self, rt: &R) {
+        drop(self.tell(rt));
+    }
+}
+
+/// What is done for a caller of pads, or for one of the API.
+#[derive(Drop)]
+pub enum Work<S, A> {
+    Pad(S),
+    Api(A),
+}
+
+impl<S: Job + Drop, A: Job + Drop> Job for Work<S, A> {
     fn go<R: Wait>(self, rt: &R) {
         match self {
             Work::Pad(sitting) => sitting.go(rt),
@@ -107,3 +185,6 @@ impl<
         }
     }
 }
+
+/// What a server does for a caller.
+pub type Serving<P, L, A, C, D> = Work<Sitting<P, L, C, D>, Asking<P, <L as Link>::Ear, A, C, D>>;

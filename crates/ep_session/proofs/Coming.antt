@@ -258,8 +258,8 @@ pub both_some : {A : Type 0} (P : A → A → Type 0) (o : Option A) (a b : A) �
 both_some {A = A} P o a b is h = subst (λ (o : Option A). IfBoth o (Some b) P) (sym is) h
 
 -- the pass that is left is still the one that the registry gave
-pub one_kept : {A : Type 0} (name : A → List ℕ) (cell : A → TableId) (hall : List (List ℕ × Answer PadBad)) (old new : Option A) → IfSome old (λ p. hall ≡ (name p, Ok (cell p)) ∷ []) → IfBoth old new (λ o n. (name n ≡ name o) × (cell n ≡ cell o)) → IfSome new (λ p. hall ≡ (name p, Ok (cell p)) ∷ [])
-one_kept name cell hall None None h k = tt
-one_kept name cell hall (Some o) (Some n) h k = h ∙ ap (λ (x : List ℕ). (x, Ok (cell o)) ∷ []) (sym k.0) ∙ ap (λ (x : TableId). (name n, Ok x) ∷ []) (sym k.1)
-one_kept name cell hall (Some o) None h k = absurd k
-one_kept name cell hall None (Some n) h k = absurd k
+pub one_kept : {A M : Type 0} (name : A → List ℕ) (cell : A → TableId) (begun : A → M) (hall : List (List ℕ × Answer PadBad)) (old new : Option A) → IfSome old (λ p. hall ≡ (name p, Ok (cell p)) ∷ []) → IfBoth old new (λ o n. (name n ≡ name o) × (cell n ≡ cell o) × (begun n ≡ begun o)) → IfSome new (λ p. hall ≡ (name p, Ok (cell p)) ∷ [])
+one_kept name cell begun hall None None h k = tt
+one_kept name cell begun hall (Some o) (Some n) h k = h ∙ ap (λ (x : List ℕ). (x, Ok (cell o)) ∷ []) (sym k.0) ∙ ap (λ (x : TableId). (name n, Ok x) ∷ []) (sym k.1)
+one_kept name cell begun hall (Some o) None h k = absurd k
+one_kept name cell begun hall None (Some n) h k = absurd k

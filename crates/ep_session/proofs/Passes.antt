@@ -97,3 +97,7 @@ pub asked_legal : {D A : Type 0} (told_by : D → Option Contents) (failures : D
     → now ≡ begun → AsksOrLacks (IsLegalFrom told_by failures begun) v e kind r w → IsLegalFrom told_by failures begun (pairs v.seen) → IsLegalFrom told_by failures now (pairs w.seen)
 asked_legal told_by failures begun now v e kind r w same (inl a) h = subst (λ b. IsLegalFrom told_by failures b (pairs w.seen)) (sym same) a.legal
 asked_legal told_by failures begun now v e kind r w same (inr x) h = subst (λ b. IsLegalFrom told_by failures b (pairs w.seen)) (sym same) (subst (λ (u : Known PadEntry PadReply). IsLegalFrom told_by failures begun (pairs u.seen)) (sym x.1) h)
+
+-- what is legal behind a machine is so behind the same one
+pub legal_on : {D : Type 0} {told : D → Option Contents} {failures : D → ℕ} {old new : Held D} (h : List (PadEntry × PadReply)) → new ≡ old → IsLegalFrom told failures old h → IsLegalFrom told failures new h
+legal_on {told = told} {failures = failures} h same legal = subst (λ m. IsLegalFrom told failures m h) (sym same) legal

@@ -37,7 +37,7 @@ use Rattle.ep_outside.specs.Disk.{Contents}
 use Rattle.ep_pad.specs.Asking.{AsksOrLacks}
 use Rattle.ep_session.specs.Ends.{end_of}
 use Rattle.ep_session.specs.Session.{Did, Heard, Understood, Said, Unsaid, Called, Granted, Entered, Duty, Outcome, Then, Ends, Runs, Does, Sends, Begin, Understand, Tell, TellNop, Say, Show, Fetch, Look, Hear, Greet, Ask, telling, told, nop_telling, nop_told, nops_due, news_due, due_at, counted, fetched, is_full, looked, shown, slid, unfit, changes_of, heard, asked, most_bytes, nowhere, begun, greeted, none_missed, rejoined, rejoin_place, text_of, traffic_of, calls_of, desk_of, hall_of, moment_of, moments_of}
-use Rattle.ep_session.specs.Says.{Performs, SendsAs, IsCaused, OnLink, Done, IsInside, Hears, GotAs, AskedBy, Greets, GreetedAs, BegunAs, no_moment, place_of, due_of, outcome_of, first_of, as_first, greeting_of, greeting_due}
+use Rattle.ep_session.specs.Says.{Performs, SendsAs, IsCaused, OnLink, Done, IsInside, Hears, GotAs, AskedBy, Greets, GreetedAs, BegunAs, no_moment, MayLack, due_of, outcome_of, first_of, as_first, greeting_of, greeting_due}
 use Rattle.ep_session.specs.declared.end.End.{End}
 use Rattle.ep_session.specs.declared.end.End.TheVariants as ends
 use Rattle.ep_session.specs.Steps.{StepsOf}
@@ -154,9 +154,9 @@ pub one_ends : {X : Type 0} (at : Place) (d : Duty) (did : Did) (e : End) (r : R
 one_ends at d did e r left is does = subst (λ r. Performs at (d ∷ []) (did ∷ []) r at left) (sym is) (λ others. (Ends at e, inr (at, e, does, refl, refl), inl refl))
 
 -- memory ran out behind it
-pub one_short : {X : Type 0} (at : Place) (d : Duty) (did : Did) (out : Outcome) (left : X → List Duty) → Does at d did out → Performs at (d ∷ []) (did ∷ []) (Err ends.NoMemory) (place_of out) left
-one_short at d did (Then to more) left does = λ others. (Then to (more ++ others), inl (to, more, does, refl), inr (refl, refl))
-one_short at d did (Ends to e) left does = λ others. (Ends to e, inr (to, e, does, refl, refl), inr (refl, refl))
+pub one_short : {X : Type 0} (at : Place) (d : Duty) (did : Did) (out : Outcome) (new : Place) (left : X → List Duty) → MayLack out new → Does at d did out → Performs at (d ∷ []) (did ∷ []) (Err ends.NoMemory) new left
+one_short at d did (Then to more) new left lacks does = λ others. (Then to (more ++ others), inl (to, more, does, refl), inr (lacks, refl))
+one_short at d did (Ends to e) new left lacks does = λ others. (Ends to e, inr (to, e, does, refl, refl), inr (lacks, refl))
 
 -- memory ran out before it
 pub none_short : {X : Type 0} (at : Place) (due : List Duty) (left : X → List Duty) → Performs at due [] (Err ends.NoMemory) at left
@@ -292,7 +292,7 @@ pub called_short : {X : Type 0} (shows : ℕ → Type 0) (a : Option (List Passe
     → x ≡ Err ends.NoMemory → Does at d (Called e r) (Then to more) → Goes u v ((e, r) ∷ []) → AllByRecursion shows (moments_of (Called e r ∷ [])) → Done shows a a u v at to (d ∷ []) x left
 called_short {X = X} shows a u v at to d e r more x left is does goes shown =
     called {X = X} shows a u v at to (d ∷ []) e r x left goes shown
-    (subst (λ (q : Result X End). Performs {X = X} at (d ∷ []) (Called e r ∷ []) q to left) (sym is) (one_short {X = X} at d (Called e r) (Then to more) left does))
+    (subst (λ (q : Result X End). Performs {X = X} at (d ∷ []) (Called e r ∷ []) q to left) (sym is) (one_short {X = X} at d (Called e r) (Then to more) to left refl does))
 
 -- memory ran out before a call of the pad
 uncalled : {X : Type 0} (shows : ℕ → Type 0) (a : Option (List Passed)) (u v : PadView) (at : Place) (d : Duty) (x : Result X End) (left : X → List Duty) → x ≡ Err ends.NoMemory → Goes u v [] → Done shows a a u v at at (d ∷ []) x left
@@ -371,9 +371,9 @@ look_part x y u v at start granularity request p res r is fit goes part =
     (res, refl, sym (ap (looked at start granularity request) is ∙ ap (shown at d) fit)) refl))
     (done_link no_moment x y v at at (d ∷ []) r (λ _. []) part)
 
-shown_place : (at : Place) (d : Duty) (o : Option FitBad) → place_of (shown at d o) ≡ at
-shown_place at d None = refl
-shown_place at d (Some why) = refl
+shown_lacks : (at : Place) (d : Duty) (o : Option FitBad) → MayLack (shown at d o) at
+shown_lacks at d None = refl
+shown_lacks at d (Some why) = refl
 
 -- a piece of history whose changes don't fit, or for which there was no memory
 pub look_failed : (x : Option (List Passed)) (u v : PadView) (at : Place) (start granularity request : ℕ) (p : Piece) (res : Result Piece PadBad) (e : End) (r : Result (Unit {0}) End)
@@ -383,8 +383,7 @@ look_failed x u v at start granularity request p res e r is (inl short) same goe
     let call = Called (entry.History at.me start (100 * granularity)) (reply.Piece res) in
     called {X = Unit {0}} no_moment x u v at at (Look start granularity request ∷ []) (entry.History at.me start (100 * granularity)) (reply.Piece res) r (λ _. []) goes tt
     (subst (λ (q : Result (Unit {0}) End). Performs at (Look start granularity request ∷ []) (call ∷ []) q at (λ _. [])) (sym (subst (λ (e : End). r ≡ Err e) short same))
-    (subst (λ (to : Place). Performs {X = Unit {0}} at (Look start granularity request ∷ []) (call ∷ []) (Err ends.NoMemory) to (λ _. [])) (shown_place at (Show start granularity request p.doc cs) (unfit p.doc cs))
-    (one_short {X = Unit {0}} at (Look start granularity request) call (looked at start granularity request (Ok p)) (λ _. []) (res, refl, sym (ap (looked at start granularity request) is)))))
+    (one_short {X = Unit {0}} at (Look start granularity request) call (looked at start granularity request (Ok p)) at (λ _. []) (shown_lacks at (Show start granularity request p.doc cs) (unfit p.doc cs)) (res, refl, sym (ap (looked at start granularity request) is))))
 look_failed x u v at start granularity request p res e r is (inr (why, unfits, broken)) same goes =
     let cs = changes_of p.revs.items in
     let d = Show start granularity request p.doc cs in
@@ -406,18 +405,6 @@ pub fetch_on : (x y z : Option (List Passed)) (u v w : PadView) (old mid new : P
 fetch_on x y z u v w old mid new r p q = done_on no_moment x y z u v w old mid new (Fetch ∷ []) (Fetch ∷ []) [] tt r (λ _. Fetch ∷ []) (λ full. if full then [] else (Fetch ∷ [])) refl p q
 
 -- ---- a turn
-
-choice_place : (b : Bool) (at : Place) (due : List Duty) (e : End) → place_of (if b then Then at due else Ends at e) ≡ at
-choice_place true at due e = refl
-choice_place false at due e = refl
-
-heard_place : (at : Place) (g : LinkGot) (n : ℕ) → place_of (heard at g n) ≡ at
-heard_place at (got.Message text) n = refl
-heard_place at got.Binary n = refl
-heard_place at got.Nothing n = refl
-heard_place at got.Closed n = refl
-heard_place at got.Failed n = refl
-heard_place at got.NoMemory n = refl
 
 abbrev pub left_by : Asked → List Duty
 left_by x = due_of x ++ Fetch ∷ Hear ∷ []
@@ -447,7 +434,7 @@ hears_first a b at text n t = record { log = Heard (got.Message text) n ∷ []; 
 
 hears_text : (a b : Option (List Passed)) (at : Place) (text : List ℕ) (n : ℕ) (r : Result Asked End) → Adds a b (came (got.Message text)) → AskedBy text r → HeardPart a b at r
 hears_text a b at text n r t (inl is) = subst (HeardPart a b at) (sym is)
-    (record { log = Heard (got.Message text) n ∷ []; traffic = t; calls = refl; moments = refl; inside = tt; performs = one_short {X = Asked} at Hear (Heard (got.Message text) n) (Then at (Understand text ∷ [])) left_by (got.Message text, n, refl, refl) })
+    (record { log = Heard (got.Message text) n ∷ []; traffic = t; calls = refl; moments = refl; inside = tt; performs = one_short {X = Asked} at Hear (Heard (got.Message text) n) (Then at (Understand text ∷ [])) at left_by refl (got.Message text, n, refl, refl) })
 hears_text a b at text n r t (inr (m, reads, f)) =
     link_plain a b at at (Hear ∷ []) r left_by (link_on a b b at at at (Hear ∷ []) (Understand text ∷ []) [] tt r (λ _. Understand text ∷ []) left_by refl (hears_first a b at text n t)
     (record { log = Understood text m ∷ []; traffic = adds_nothing b; calls = refl; moments = refl; inside = tt; performs = reads_next at text m r reads f }))
@@ -502,7 +489,7 @@ greets_first : (a b : Option (List Passed)) (drawn : Drawn) (at : Place) (text :
 greets_first a b drawn at text n t = record { log = Heard (got.Message text) n ∷ []; traffic = t; calls = refl; moments = refl; inside = tt; performs = one_then {X = Unit {0}} at at (Greet drawn) (Heard (got.Message text) n) (Begin drawn text ∷ []) tt (λ _. Begin drawn text ∷ []) (got.Message text, n, refl, refl) refl }
 
 greets_short : (a b : Option (List Passed)) (drawn : Drawn) (at : Place) (text : List ℕ) (n : ℕ) → Adds a b (came (got.Message text)) → GreetPart a b drawn at (Err ends.NoMemory)
-greets_short a b drawn at text n t = record { log = Heard (got.Message text) n ∷ []; traffic = t; calls = refl; moments = refl; inside = tt; performs = one_short {X = Option Ready} at (Greet drawn) (Heard (got.Message text) n) (Then at (Begin drawn text ∷ [])) (greeting_due drawn) (got.Message text, n, refl, refl) }
+greets_short a b drawn at text n t = record { log = Heard (got.Message text) n ∷ []; traffic = t; calls = refl; moments = refl; inside = tt; performs = one_short {X = Option Ready} at (Greet drawn) (Heard (got.Message text) n) (Then at (Begin drawn text ∷ [])) at (greeting_due drawn) refl (got.Message text, n, refl, refl) }
 
 -- a first message, read
 begins_next : (drawn : Drawn) (at : Place) (text : List ℕ) (m : Result ClientMsg WireBad) (o : Result (Option Ready) End) (r : Result Ready End) → as_first o r → ReadsClient text most_bytes m → ((at : Place) (drawn : Drawn) → begun at drawn m ≡ first_of r at drawn) → Performs at (Begin drawn text ∷ []) (Understood text m ∷ []) o at (greeting_due drawn)

@@ -5,6 +5,7 @@ use Rattle.ep_outside.specs.Outside.{HasRisen}
 use Rattle.ep_units.specs.Text.{Text}
 use Rattle.ep_cell.specs.Passes.{Known}
 use Rattle.ep_history.specs.declared.pad_bad.PadBad.{PadBad}
+use Rattle.ep_history.specs.declared.pad_bad.PadBad.TheVariants as bad
 use Rattle.ep_dir_records.specs.declared.ids.Drawn.{Drawn}
 use Rattle.ep_groups.specs.declared.entries.DirEntry.{DirEntry}
 use Rattle.ep_groups.specs.declared.entries.DirReply.{DirReply}
@@ -29,13 +30,15 @@ use Rattle.ep_session.specs.declared.hear.Asked.TheVariants as asked_for
 use Rattle.ep_session.specs.declared.place.Place.{Place}
 use Rattle.ep_session.specs.declared.ready.Ready.{Ready}
 
-abbrev pub place_of : Outcome → Place
-place_of (Then at due) = at
-place_of (Ends at e) = at
+-- memory may run out there: no end had come, or that of a piece of history whose changes don't fit, which no legal history has
+abbrev pub MayLack : Outcome → Place → Type 0
+MayLack (Then to due) at = to ≡ at
+MayLack (Ends to (ends.Broken (bad.Fit why))) at = to ≡ at
+MayLack (Ends to e) at = ⊥
 
 -- it ended so, or memory ran out there
 abbrev pub EndsAs : Outcome → Place → End → Type 0
-EndsAs out at e = (out ≡ Ends at e) ⊎ ((place_of out ≡ at) × (e ≡ ends.NoMemory))
+EndsAs out at e = (out ≡ Ends at e) ⊎ (MayLack out at × (e ≡ ends.NoMemory))
 
 -- these duties were done, and those are left; or the session ended among them. What else is due stays.
 abbrev pub Performs : {X : Type 0} → Place → List Duty → List Did → Result X End → Place → (X → List Duty) → Type 0

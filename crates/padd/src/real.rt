@@ -11,7 +11,7 @@ use ep_net::{ApiStream, Bounds, TcpDoors, WakeEar, WsLink, connections_under};
 use ep_outside::Limits;
 use ep_pad_port::House;
 use ep_run::{Status, run};
-use ep_serve::{Server, Work};
+use ep_serve::{Server, Serving};
 use ep_shown::ShownShelf;
 use ep_units::NoMemory;
 use std::fs::{File, Files, OpenOptions};
@@ -45,7 +45,7 @@ const LIMITS: Limits = Limits {
 type RealHouse<R> = House<RealShelf, FarKeeper<R>>;
 
 /// What `ep_serve` does for a caller.
-type RealWork<R> = Work<RealHouse<R>, WsLink<R>, ApiStream<R>, SysClock<R>, SysDraws<R>>;
+type RealWork<R> = Serving<RealHouse<R>, WsLink<R>, ApiStream<R>, SysClock<R>, SysDraws<R>>;
 
 /// What is done for a caller. Its type says nothing of the house, so that those that stand on it are short.
 pub struct RealJob<R: Wait + Net + RandomSource + Clock + Copy + Drop> {

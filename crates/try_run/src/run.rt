@@ -2,6 +2,7 @@
 
 mod doors;
 mod page;
+mod rows;
 mod text;
 
 use doors::{Absent, Quiet};
@@ -11,6 +12,7 @@ use ep_outside::Failed;
 use ep_run::run;
 use ep_units::{NoMemory, PadId, Units};
 use page::Page;
+use rows::{AFTER, BEFORE, CRASHES_BEFORE_THE_GATE, CRASHES_BEHIND_THE_GATE, KEPT, LOST, ROWS};
 use std::alloc::Global;
 use std::sync::Wait;
 use std::test::Fail;
@@ -168,6 +170,38 @@ fn scripts(rt: HostRuntime) -> Result<(), Fail> {
             comes_to(&rt, rt.alloc(), case, output, code)?,
             "at {script}"
         );
+    }
+    Ok(())
+}
+
+#[test]
+fn worked_rows(rt: HostRuntime) -> Result<(), Fail> {
+    for (script, output) in ROWS {
+        let case = Case::play(script.as_bytes());
+        assert!(rt; comes_to(&rt, rt.alloc(), case, output, 0)?, "at {script}");
+    }
+    Ok(())
+}
+
+/// Whether a crash within a take leads to this.
+fn crash_leads<R: Wait + Threads>(
+    rt: &R,
+    alloc: Global,
+    crash: &str,
+    then: &str,
+) -> Result<bool, Fail> {
+    let script = format!(in alloc; "{}crash A {crash}\n{}", BEFORE.0, AFTER)?;
+    let output = format!(in alloc; "{}{then}", BEFORE.1)?;
+    comes_to(rt, alloc, Case::play(script.as_bytes()), output.as_str(), 0)
+}
+
+#[test]
+fn crashes_within_a_take(rt: HostRuntime) -> Result<(), Fail> {
+    for crash in CRASHES_BEFORE_THE_GATE {
+        assert!(rt; crash_leads(&rt, rt.alloc(), crash, LOST)?, "at {crash}");
+    }
+    for crash in CRASHES_BEHIND_THE_GATE {
+        assert!(rt; crash_leads(&rt, rt.alloc(), crash, KEPT)?, "at {crash}");
     }
     Ok(())
 }

@@ -9,7 +9,7 @@ use ep_doors::{Host, Job, MemSpawner, Served, Spawner, ThreadSpawner, serve, sta
 use ep_keep::MapKeeper;
 use ep_outside::Limits;
 use ep_pad_port::House;
-use ep_serve::{Server, Work};
+use ep_serve::{Server, Serving};
 use ep_units::NoMemory;
 use std::alloc::Global;
 use std::collections::VecDeque;
@@ -39,7 +39,7 @@ type MemHouse = House<MemShelf, MapKeeper>;
 
 /// What is done for a caller of a server in memory.
 struct MemJob {
-    work: Work<MemHouse, WireLink, Api, MemClock, MemDraws<'static>>,
+    work: Serving<MemHouse, WireLink, Api, MemClock, MemDraws<'static>>,
 }
 
 impl Drop for MemJob {

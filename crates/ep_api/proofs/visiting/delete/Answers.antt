@@ -16,4 +16,4 @@ pub returns-clause-stand : goal.returns-clause-stand
 returns-clause-stand g c = stand_after _ _ _ _ _ _ _ _ _ _ replied.Done c.in_ok-pass.pass _ _ c.requires.stand c.in_ok-pass.ensures.same c.in_ok-pass.ensures.stands c.delete-told.ensures.of c.delete-told.ensures.pad.2 (inl c.delete-told.ensures.asks) c.push_reserved.ensures.items
 
 pub returns-clause-visits : goal.returns-clause-visits
-returns-clause-visits g c = visited g.P.PadPort.known g.P.PadPort.name_of g.P.PadPort.cell_of _ _ _ _ _ _ _ _ replied.Done _ c.in_ok-pass.pass _ c.delete-told.result _ c.in_ok-pass.ensures.enters c.in_ok-pass.ensures.same c.delete-told.ensures.pad (inl c.delete-told.ensures.asks) c.push_reserved.ensures.items c.answered.ensures refl
+returns-clause-visits g c = visited g.P.PadPort.known g.P.PadPort.name_of g.P.PadPort.cell_of _ _ _ _ _ _ _ _ replied.Done _ c.in_ok-pass.pass _ c.delete-told.result _ c.in_ok-pass.ensures.enters c.in_ok-pass.ensures.same (c.delete-told.ensures.pad.0, c.delete-told.ensures.pad.1) (inl c.delete-told.ensures.asks) c.push_reserved.ensures.items c.answered.ensures refl

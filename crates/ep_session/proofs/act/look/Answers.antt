@@ -4,7 +4,7 @@ use Rattle.ep_pad.specs.declared.entries.PadReply.TheVariants as reply
 use Rattle.ep_session.specs.Ends.{end_of}
 use Rattle.ep_session.specs.Says.{no_moment}
 use Rattle.ep_session.specs.Session.{Called, Look, looked}
-use Rattle.ep_session.proofs.Passes.{goes_of}
+use Rattle.ep_session.proofs.Passes.{goes_of, legal_on}
 use Rattle.ep_session.proofs.Running.{one_ends, err_is, called, look_failed, look_done}
 use Rattle.ep_session.proofs.act.look.Goals as goal
 
@@ -33,3 +33,12 @@ returns-clause-done g c =
     let p = g.P.PadPort.known in
     look_done (t c.args.link.now) (t c.show.new.link) (p c.args.pass.now) (p c.history.new.pass) c.args.place.now a.0 a.1 a.2 c.in_ok-piece.piece c.history.result c.in_ok-steps.steps c.show.result
     c.in_ok-piece.was c.in_ok-steps.ensures (goes_of _ _ _ _ c.history.ensures.asks.makes) (c.show.ensures.done c.args.place.now)
+
+pub returns-in_err-piece-clause-legal : goal.returns-in_err-piece-clause-legal
+returns-in_err-piece-clause-legal g c = λ _. legal_on _ c.history.ensures.pad.2 c.history.ensures.asks.legal
+
+pub returns-in_err-steps-clause-legal : goal.returns-in_err-steps-clause-legal
+returns-in_err-steps-clause-legal g c = λ _. legal_on _ c.history.ensures.pad.2 c.history.ensures.asks.legal
+
+pub returns-clause-legal : goal.returns-clause-legal
+returns-clause-legal g c = λ _. legal_on _ c.history.ensures.pad.2 c.history.ensures.asks.legal

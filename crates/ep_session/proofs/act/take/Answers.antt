@@ -4,7 +4,7 @@ use Rattle.ep_pad.specs.declared.entries.PadReply.TheVariants as reply
 use Rattle.ep_session.specs.Ends.{end_of}
 use Rattle.ep_session.specs.Session.{Called, Take, Then, took}
 use Rattle.ep_session.proofs.Running.{one_then, one_ends, err_is, called}
-use Rattle.ep_session.proofs.Passes.{goes_of}
+use Rattle.ep_session.proofs.Passes.{goes_of, legal_on}
 use Rattle.ep_session.proofs.act.take.Goals as goal
 
 pub returns-in_err-accept-clause-done : goal.returns-in_err-accept-clause-done
@@ -26,3 +26,9 @@ returns-clause-done g c sent =
     (one_then at to (Take c.args.base c.args.change) (Called e r) [] (tt {0}) (λ _. [])
     (c.now_ms-now.result, c.accept.result, refl, ap (λ t. Then (record at { taken = t }) []) c.counted-place.ensures ∙ sym (ap (took at) c.in_ok-accept.was))
     refl)
+
+pub returns-in_err-accept-clause-legal : goal.returns-in_err-accept-clause-legal
+returns-in_err-accept-clause-legal g c = λ _. legal_on _ c.accept.ensures.pad.2 c.accept.ensures.asks.legal
+
+pub returns-clause-legal : goal.returns-clause-legal
+returns-clause-legal g c = λ _. legal_on _ c.accept.ensures.pad.2 c.accept.ensures.asks.legal

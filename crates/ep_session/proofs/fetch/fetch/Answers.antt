@@ -5,7 +5,7 @@ use Rattle.ep_pad.specs.declared.entries.PadReply.TheVariants as reply
 use Rattle.ep_session.specs.Ends.{end_of}
 use Rattle.ep_session.specs.Says.{OnLink, no_moment}
 use Rattle.ep_session.specs.Session.{Called, Fetch, counted, fetched, news_due}
-use Rattle.ep_session.proofs.Passes.{goes_of}
+use Rattle.ep_session.proofs.Passes.{goes_of, legal_on}
 use Rattle.ep_session.proofs.Running.{one_ends, err_is, called, done_as, done_ended, fetch_part, after}
 use Rattle.ep_session.proofs.fetch.fetch.Goals as goal
 
@@ -43,3 +43,12 @@ returns-clause-done g c =
     (ap (λ n. if f.head == n then [] else (Fetch ∷ [])) (sym reached))
     (fetch_part (t c.args.link.now) (t n.link) (p c.args.pass.now) (p c.fetch.new.pass) at n.place f c.fetch.result (Ok r) c.in_ok-fetched.was (goes_of _ _ _ _ c.fetch.ensures.asks.makes)
     (subst (λ (nops : List ℕ). OnLink {X = Unit {0}} (t c.args.link.now) (t n.link) at n.place (news_due at.rev f.revs.items nops) (Ok r) (λ _. [])) c.deref.ensures.value c.in_ok-tell_all.ensures.done))
+
+pub returns-in_err-fetched-clause-legal : goal.returns-in_err-fetched-clause-legal
+returns-in_err-fetched-clause-legal g c = λ _. legal_on _ c.fetch.ensures.pad.2 c.fetch.ensures.asks.legal
+
+pub returns-in_err-tell_all-clause-legal : goal.returns-in_err-tell_all-clause-legal
+returns-in_err-tell_all-clause-legal g c = λ _. legal_on _ c.fetch.ensures.pad.2 c.fetch.ensures.asks.legal
+
+pub returns-clause-legal : goal.returns-clause-legal
+returns-clause-legal g c = λ _. legal_on _ c.fetch.ensures.pad.2 c.fetch.ensures.asks.legal

@@ -20,7 +20,7 @@ returns-then-not-leaves-clause-left g c =
     subst (λ o. LeavesBy c.args.leaves at (own_of known o) (own (known p))) (sym c.in-Some.is) (not_left c.args.leaves at (own (known p)) c.if-not-leaves.true)
 
 pub returns-then-not-leaves-clause-pad : goal.returns-then-not-leaves-clause-pad
-returns-then-not-leaves-clause-pad g c = both_some _ c.args.pass c.in-Some.pass c.in-Some.pass c.in-Some.is (refl, refl)
+returns-then-not-leaves-clause-pad g c = both_some _ c.args.pass c.in-Some.pass c.in-Some.pass c.in-Some.is (refl, refl, refl)
 
 pub returns-else-not-leaves-clause-left : goal.returns-else-not-leaves-clause-left
 returns-else-not-leaves-clause-left g c =

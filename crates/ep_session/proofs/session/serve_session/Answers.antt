@@ -49,4 +49,4 @@ leave-pass-requires-clause-none g c = λ none. none_left c.seat-hall.result.pass
 pub returns-clause-one : goal.returns-clause-one
 returns-clause-one g c =
     let s = c.seat-hall.result in
-    one_kept g.P.PadPort.name_of g.P.PadPort.cell_of (own_of g.P.PadPort.hall_known s.hall) s.pass c.leave-pass.result c.seat-hall.ensures.one c.leave-pass.ensures.pad
+    one_kept g.P.PadPort.name_of g.P.PadPort.cell_of g.P.PadPort.begun (own_of g.P.PadPort.hall_known s.hall) s.pass c.leave-pass.result c.seat-hall.ensures.one c.leave-pass.ensures.pad
