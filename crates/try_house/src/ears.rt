@@ -3,7 +3,9 @@
 use crate::given::grant;
 use crate::house::{MemHouse, opened};
 use ep_link::Ear;
+use ep_outside::{Keeper, Shelf};
 use ep_pad::PadPort;
+use ep_pad_port::{HouseOf, PadCalls};
 use ep_ring::{Bells, Ringing};
 use ep_units::{Grant, NoMemory, Units};
 use std::alloc::Global;
@@ -177,11 +179,20 @@ fn goes<R: Wait, P: PadPort + Drop>(
     Ok(is_in && waits && !visitor.has_ear() && desk.waiting(rt) == 0)
 }
 
+/// The same over a house of any kind. That it is a port is proved here of any.
+fn goes_over<R: Wait, H: Shelf + Drop, P: PadCalls<H::D>, K: Keeper + Drop>(
+    rt: &R,
+    alloc: Global,
+    desk: &Desk<HouseOf<H, P, K>>,
+) -> Result<bool, NoMemory> {
+    goes(rt, alloc, desk)
+}
+
 #[test]
 fn an_ear_goes_with_its_session(rt: HostRuntime) -> Result<(), Fail> {
     let desk = mem_desk(rt.alloc())?;
     for visit in 0..3u8 {
-        assert!(&rt; goes(&rt, rt.alloc(), &desk)?, "at visit {visit}");
+        assert!(&rt; goes_over(&rt, rt.alloc(), &desk)?, "at visit {visit}");
     }
     Ok(())
 }
@@ -199,9 +210,18 @@ fn woken<R: Wait, P: PadPort + Drop>(
     Ok((both && reader.is_rung(), writer.is_rung()))
 }
 
+/// The same over a house of any kind.
+fn woken_over<R: Wait, H: Shelf + Drop, P: PadCalls<H::D>, K: Keeper + Drop>(
+    rt: &R,
+    alloc: Global,
+    desk: &Desk<HouseOf<H, P, K>>,
+) -> Result<(bool, bool), NoMemory> {
+    woken(rt, alloc, desk)
+}
+
 #[test]
 fn a_commit_wakes_the_others(rt: HostRuntime) -> Result<(), Fail> {
     let desk = mem_desk(rt.alloc())?;
-    assert_eq!(&rt; woken(&rt, rt.alloc(), &desk)?, (true, false));
+    assert_eq!(&rt; woken_over(&rt, rt.alloc(), &desk)?, (true, false));
     Ok(())
 }

@@ -48,7 +48,7 @@ pub fn grant(alloc: Global) -> Result<Grant, NoMemory> {
 
 /// A pad on an empty disk.
 pub fn machine(alloc: Global) -> Result<PadMachine<MemDisk>, Fail>
-    ensures { IfOk result (λ m. ⟦<PadMachine<MemDisk> as Machine>⟧.stands m []) }
+    ensures { IfOk result (λ m. ⟦<PadMachine<MemDisk> as Machine>⟧.stands m m []) }
 {
     let disk = MemDisk::new(alloc, Vec::new(alloc), Vec::new(alloc))?;
     match PadMachine::open(alloc, disk, LIMITS) {

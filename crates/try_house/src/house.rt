@@ -8,9 +8,9 @@ use ep_cs::Change;
 use ep_disk_mem::{MemDisk, MemFile, MemShelf};
 use ep_groups::{DirBad, DirPort};
 use ep_keep::MapKeeper;
-use ep_outside::{Disk, Limits};
+use ep_outside::{Disk, Keeper, Limits, Shelf};
 use ep_pad::{PadBad, PadMachine, PadPort, PassBad};
-use ep_pad_port::House;
+use ep_pad_port::{House, HouseOf, PadCalls};
 use ep_step::newline_change;
 use ep_units::{Grant, NoMemory, Session, Units};
 use std::alloc::Global;
@@ -365,6 +365,17 @@ fn is_so<R: Wait + Abort, P: PadPort + DirPort>(
     }
 }
 
+/// The same of a house over any shelf, pads and keeper. That it is both ports is proved here of any, and not again of
+/// those that a test owns.
+fn is_so_over<R: Wait + Abort, H: Shelf + Drop, P: PadCalls<H::D>, K: Keeper + Drop>(
+    rt: &R,
+    alloc: Global,
+    house: &HouseOf<H, P, K>,
+    asked: Asked,
+) -> bool {
+    is_so(rt, alloc, house, asked)
+}
+
 /// The same of a house in memory with so many pads at most. Whoever owns one is dear to prove, so it stands once.
 pub fn is_so_in_memory<R: Wait + Abort>(
     rt: &R,
@@ -375,7 +386,7 @@ pub fn is_so_in_memory<R: Wait + Abort>(
     asked: Asked,
 ) -> Result<bool, Fail> {
     let house = opened(alloc, files, fails, pads)?;
-    Ok(is_so(rt, alloc, &house, asked))
+    Ok(is_so_over(rt, alloc, &house, asked))
 }
 
 /// The same of an empty one.
