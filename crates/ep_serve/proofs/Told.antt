@@ -1,5 +1,5 @@
 -- The statuses of the API's replies.
-use Rattle.std.proofs.Common.{refl, subst, sym, Result, Ok, Err}
+use Rattle.std.proofs.Common.{refl, Result, Ok, Err}
 use Rattle.std.specs.Prelude.{IsTrue}
 use Rattle.ep_ask.specs.Replies.{status}
 use Rattle.ep_ask.specs.declared.bad.ApiBad.{ApiBad}

@@ -2,7 +2,6 @@
 use Rattle.std.specs.Prelude.{ℕ, ◌≡◌, List, Option, Some, None, IfSome, All, Result, Ok, Err, string_bytes}
 use Rattle.atomic_table.specs.Seated.{TableId}
 use Rattle.ep_units.specs.Text.{Text}
-use Rattle.ep_outside.specs.Disk.{Contents}
 use Rattle.ep_outside.specs.Outside.{HasRisen, Takes, TakesPart}
 use Rattle.ep_cell.specs.Passes.{Known}
 use Rattle.ep_groups.specs.declared.entries.DirEntry.{DirEntry}

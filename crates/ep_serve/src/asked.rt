@@ -123,7 +123,7 @@ fn carry_out<R: Wait, P: PadPort, G: DirPort, C: Clock, D: Draws>(
 }
 
 // What is due to what was read of a caller.
-fn due<R: Wait, P: PadPort, G: DirPort, C: Clock, D: Draws>(
+fn due_to<R: Wait, P: PadPort, G: DirPort, C: Clock, D: Draws>(
     rt: &R,
     alloc: Global,
     pads: &P,
@@ -165,7 +165,7 @@ pub fn answer_caller<R: Wait, P: PadPort, G: DirPort, A: Source + Sink, C: Clock
     ensures later { A.failures caller.old ≤ A.failures caller.new }
 {
     let read = read_request(alloc, caller, MOST_BODY);
-    match due(rt, alloc, pads, dir, clock, draws, key, read) {
+    match due_to(rt, alloc, pads, dir, clock, draws, key, read) {
         Ok(due) => {
             let told = write(alloc, caller, due.reply());
             Ok(Came { due, told })

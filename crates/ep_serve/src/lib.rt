@@ -11,4 +11,4 @@ mod work;
 
 pub use asked::{Came, Due, Unanswered, answer_caller};
 pub use server::Server;
-pub use work::{Asking, Sat, SatOf, Serving, Sitting, Told, ToldOf, Work};
+pub use work::{Asking, Replied, RepliedOf, Sat, SatOf, Serving, Sitting, Work};

@@ -6,7 +6,7 @@ use crate::asked::{Came, Unanswered, answer_caller};
 use ep_doors::Job;
 use ep_groups::DirPort;
 use ep_link::{Ear, Link};
-use ep_outside::{Clock, Draws, Sink, Source};
+use ep_outside::{Clock, Device, Disk, Draws, Keeper, Sink, Source};
 use ep_pad::PadPort;
 use ep_ring::{RingPass, Ringing};
 use ep_session::{Report, serve_session};
@@ -97,14 +97,14 @@ pub struct Asking<P: Drop, E: Ear, A: Source + Sink + Drop, C: Drop, D: Drop> {
 
 /// What a caller of the API leaves: what came of it, its connection and its draws.
 #[derive(Drop)]
-pub struct Told<O, B, A, T, D> {
+pub struct Replied<O, B, A, T, D> {
     pub answered: Result<Came<O, B, A>, Unanswered>,
     pub caller: T,
     pub draws: D,
 }
 
 /// What is left of a caller of the API of this port.
-pub type ToldOf<P, A, D> = Told<
+pub type RepliedOf<P, A, D> = Replied<
     <P as PadPort>::Hall,
     <P as DirPort>::Pass,
     RingPass<<P as PadPort>::Pass>,
@@ -125,11 +125,11 @@ impl<
     ghost use Rattle.ep_serve.specs.Asked.{Answers};
 
     /// Reads the one request of the caller, has it done by the pads and the directory of the port, and answers it.
-    pub fn tell<R: Wait>(self, rt: &R) -> ToldOf<P, A, D>
+    pub fn tell<R: Wait>(self, rt: &R) -> RepliedOf<P, A, D>
         ensures { Answers ⟦<P as PadPort>⟧.hall_known ⟦<P as DirPort>⟧.known ⟦<Ringing<P, E> as PadPort>⟧.known ⟦<Ringing<P, E> as PadPort>⟧.name_of ⟦<Ringing<P, E> as PadPort>⟧.cell_of
             (Waits (⟦<P as PadPort>⟧.is_hall (arc_value self.pads.pads)) (⟦<P as PadPort>⟧.is_register (⟦<P as PadPort>⟧.limits_of (arc_value self.pads.pads))) ⟦<P as PadPort>⟧.hall_known)
-            (Sits (⟦<P as DirPort>⟧.is_of (arc_value self.pads.pads)) ⟦<P as DirPort>⟧.Store.always_tells (⟦<P as DirPort>⟧.begun (arc_value self.pads.pads)) ⟦<P as DirPort>⟧.known)
-            (Stands (⟦<Ringing<P, E> as PadPort>⟧.is_of self.pads) (⟦<P as PadPort>⟧.limits_of (arc_value self.pads.pads)) ⟦<P as PadPort>⟧.Store.told ⟦<P as PadPort>⟧.Store.failures ⟦<Ringing<P, E> as PadPort>⟧.begun ⟦<Ringing<P, E> as PadPort>⟧.known)
+            (Sits (⟦<P as DirPort>⟧.is_of (arc_value self.pads.pads)) ⟦<<P as DirPort>::Store as Keeper>⟧.always_tells (⟦<P as DirPort>⟧.begun (arc_value self.pads.pads)) ⟦<P as DirPort>⟧.known)
+            (Stands (⟦<Ringing<P, E> as PadPort>⟧.is_of self.pads) (⟦<P as PadPort>⟧.limits_of (arc_value self.pads.pads)) ⟦<<P as PadPort>::Store as Disk>⟧.told ⟦<<P as PadPort>::Store as Device>⟧.failures ⟦<Ringing<P, E> as PadPort>⟧.begun ⟦<Ringing<P, E> as PadPort>⟧.known)
             (C.may_show (arc_value self.clock)) (string_bytes (arc_value self.key)) (D.to_come self.draws) (D.to_come result.draws) A.left A.held A.failures self.caller result.caller result.answered }
     {
         let Asking {
@@ -150,7 +150,7 @@ impl<
             &mut draws,
             key.as_str(),
         );
-        Told {
+        Replied {
             answered,
             caller,
             draws,
