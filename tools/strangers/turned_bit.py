@@ -72,11 +72,13 @@ class Trial:
             it.write(turned)
         said, status = self.judged()
         told = self.opened()
-        size = os.path.getsize(path)
-        lost = sum(gate >= size - 1 for gate in self.gates)
+        with open(path, "rb") as it:
+            now = it.read()
+        ends = [*self.gates[1:], self.end]
+        lost = sum(now[gate:end] != self.file[gate:end] for gate, end in zip(self.gates, ends))
         kept = path + ".cut-1"
         is_kept = os.path.exists(kept) and self.is_mended(kept, at)
-        print(f"{what}: {said} (status {status}); then {told}, {lost} records cut off, {'kept' if is_kept else 'not kept'}")
+        print(f"{what}: {said} (status {status}); then {told}, {lost} records lost, {'kept' if is_kept else 'not kept'}")
         if lost > 1 and not is_kept:
             self.wrong += 1
         if at in self.gates and lost > 1 and "behind" not in said:
