@@ -11,7 +11,7 @@ use ep_verify::{Verdict, What};
 pub enum Found {
     /// Each is a pad's, or none stands there.
     Sound,
-    /// One at least is no journal, or has a bad record.
+    /// One at least is no journal, or has a bad record, or records behind a closed gate.
     Broken,
 }
 
@@ -20,7 +20,7 @@ fn is_broken(what: What) -> bool
 {
     match what {
         What::Whole { .. } | What::Absent => false,
-        What::Foreign | What::BadRecord(_) => true,
+        What::Foreign | What::BadRecord(_) | What::Behind(_) => true,
     }
 }
 

@@ -17,6 +17,7 @@ pub fn print_what(alloc: Global, what: What) -> Result<String, NoMemory>
         What::Absent => Ok(format!(in alloc; "absent")?),
         What::Foreign => Ok(format!(in alloc; "foreign")?),
         What::BadRecord(index) => Ok(format!(in alloc; "record {index}")?),
+        What::Behind(count) => Ok(format!(in alloc; "behind {count}")?),
     }
 }
 

@@ -1,5 +1,5 @@
 -- A file has one verdict.
-use Rattle.std.proofs.Common.{◌≡◌, ℕ, zero, suc, ◌<◌, Bool, true, false, List, [], ◌∷◌, length, map, take, get_or, Some, refl, sym, ap, ◌∙◌, subst, arith, true≢false}
+use Rattle.std.proofs.Common.{◌≡◌, ℕ, zero, suc, ◌<◌, ◌≤◌, Bool, true, false, List, [], ◌∷◌, length, map, take, get_or, Some, refl, sym, ap, ◌∙◌, subst, arith, true≢false}
 use Rattle.std.specs.Prelude.{nat_lt}
 use Rattle.std.specs.List.{AllByRecursion}
 use Rattle.std.proofs.lemmas.Bool.Decides.{nat_tests}
@@ -13,9 +13,9 @@ use Rattle.ep_journal.specs.File.{is_foreign, records_of, stands_for}
 use Rattle.ep_record.specs.Bytes.{bytes_of, IsEncoding, IsRecord}
 use Rattle.ep_pad_file.proofs.Standing.{one_list, records_are, record_in_bytes}
 use Rattle.ep_pad.specs.Opening.{IsBadAt, IsFront}
-use Rattle.ep_verify.specs.Verdicts.{IsWhat, Tells, no_limits}
+use Rattle.ep_verify.specs.Verdicts.{behind, IsWhat, Tells, no_limits}
 use Rattle.ep_verify.specs.declared.verdict.What.{What}
-use Rattle.ep_verify.specs.declared.verdict.What.TheVariants.{Whole, Absent, Foreign, BadRecord}
+use Rattle.ep_verify.specs.declared.verdict.What.TheVariants.{Whole, Absent, Foreign, BadRecord, Behind}
 
 -- no two records have the same bytes
 one-record : (bytes : List ℕ) (r q : Record) → IsEncoding bytes r → IsEncoding bytes q → r ≡ q
@@ -84,24 +84,37 @@ journal-tells file pad t = not-foreign file (is_foreign file) _ refl t.stands.by
 there-or-not : (p q : PadState) → p ≡ q → p.present ≡ true → q.present ≡ false → ⊥
 there-or-not p q e a b = true≢false (sym a ∙ (ap (λ (x : PadState). x.present) e ∙ b))
 
+-- few records behind, and many
+few-or-many : (m n : ℕ) → m ≤ 1 → 1 < n → n ≡ m → ⊥
+few-or-many m n few many is = omega (arith, few, many, is)
+
 pub one : (file : List ℕ) (v w : What) → IsWhat file v → IsWhat file w → v ≡ w
-one file (Whole h u) (Whole g t) (p, a, s) (q, b, r) =
+one file (Whole h u) (Whole g t) (p, a, s, few) (q, b, r, fewer) =
     let e = one-pad file p q a b in
     let heads : h ≡ g = s.1 ∙ (ap (λ (x : PadState). head (newest x)) e ∙ sym r.1) in
     let texts : u ≡ t = s.2 ∙ (ap (λ (x : PadState). length (head_doc (newest x))) e ∙ sym r.2) in
     (λ i. Whole (heads i) (texts i))
-one file (Whole h u) Absent (p, a, s) (q, b, r) = absurd (there-or-not p q (one-pad file p q a b) s.0 r)
-one file (Whole h u) Foreign (p, a, s) r = absurd (true≢false (sym r ∙ journal-tells file p a))
-one file (Whole h u) (BadRecord k) (p, a, s) r = absurd (tells-none-bad file p k a r.1)
-one file Absent (Whole g t) (p, a, s) (q, b, r) = absurd (there-or-not q p (one-pad file q p b a) r.0 s)
+one file (Whole h u) Absent (p, a, s, few) (q, b, r, fewer) = absurd (there-or-not p q (one-pad file p q a b) s.0 r)
+one file (Whole h u) Foreign (p, a, s, few) r = absurd (true≢false (sym r ∙ journal-tells file p a))
+one file (Whole h u) (BadRecord k) (p, a, s, few) r = absurd (tells-none-bad file p k a r.1)
+one file (Whole h u) (Behind n) (p, a, s, few) (q, b, many, is) = absurd (few-or-many (behind file) n few many is)
+one file Absent (Whole g t) (p, a, s, few) (q, b, r, fewer) = absurd (there-or-not q p (one-pad file q p b a) r.0 s)
 one file Absent Absent s r = refl
-one file Absent Foreign (p, a, s) r = absurd (true≢false (sym r ∙ journal-tells file p a))
-one file Absent (BadRecord k) (p, a, s) r = absurd (tells-none-bad file p k a r.1)
-one file Foreign (Whole g t) s (q, b, r) = absurd (true≢false (sym s ∙ journal-tells file q b))
-one file Foreign Absent s (q, b, r) = absurd (true≢false (sym s ∙ journal-tells file q b))
+one file Absent Foreign (p, a, s, few) r = absurd (true≢false (sym r ∙ journal-tells file p a))
+one file Absent (BadRecord k) (p, a, s, few) r = absurd (tells-none-bad file p k a r.1)
+one file Absent (Behind n) (p, a, s, few) (q, b, many, is) = absurd (few-or-many (behind file) n few many is)
+one file Foreign (Whole g t) s (q, b, r, fewer) = absurd (true≢false (sym s ∙ journal-tells file q b))
+one file Foreign Absent s (q, b, r, fewer) = absurd (true≢false (sym s ∙ journal-tells file q b))
 one file Foreign Foreign s r = refl
 one file Foreign (BadRecord k) s r = absurd (true≢false (sym s ∙ r.0))
-one file (BadRecord j) (Whole g t) s (q, b, r) = absurd (tells-none-bad file q j b s.1)
-one file (BadRecord j) Absent s (q, b, r) = absurd (tells-none-bad file q j b s.1)
+one file Foreign (Behind n) s (q, b, r, fewer) = absurd (true≢false (sym s ∙ journal-tells file q b))
+one file (BadRecord j) (Whole g t) s (q, b, r, fewer) = absurd (tells-none-bad file q j b s.1)
+one file (BadRecord j) Absent s (q, b, r, fewer) = absurd (tells-none-bad file q j b s.1)
 one file (BadRecord j) Foreign s r = absurd (true≢false (sym r ∙ s.0))
 one file (BadRecord j) (BadRecord k) s r = ap BadRecord (one-bad file j k s.1 r.1)
+one file (BadRecord j) (Behind n) s (q, b, r, fewer) = absurd (tells-none-bad file q j b s.1)
+one file (Behind n) (Whole h u) (q, b, many, is) (p, a, s, few) = absurd (few-or-many (behind file) n few many is)
+one file (Behind n) Absent (q, b, many, is) (p, a, s, few) = absurd (few-or-many (behind file) n few many is)
+one file (Behind n) Foreign (q, b, many, is) r = absurd (true≢false (sym r ∙ journal-tells file q b))
+one file (Behind n) (BadRecord k) (q, b, many, is) r = absurd (tells-none-bad file q k b r.1)
+one file (Behind n) (Behind m) (q, b, many, is) (p, a, more, so) = ap Behind (is ∙ sym so)

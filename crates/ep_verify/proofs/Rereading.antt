@@ -1,16 +1,11 @@
 -- What the bytes of a file come to.
-use Rattle.std.proofs.Common.{◌≡◌, ℕ, Bool, true, false, List, length, take, Some, Result, Ok, Err, refl, sym, ap, ◌∙◌, arith}
-use Rattle.std.specs.Prelude.{IfOk}
+use Rattle.std.proofs.Common.{◌≡◌, ℕ, Bool, true, false, List, length, take, Some, refl, sym, ap, ◌∙◌, arith}
 use Rattle.std.proofs.lemmas.List.{take_all}
-use Rattle.ep_units.specs.declared.no_memory.NoMemory.{NoMemory}
-use Rattle.ep_history.specs.Pad.{PadState}
 use Rattle.ep_history.specs.Records.{told}
 use Rattle.ep_history.specs.declared.record.Record.{Record}
 use Rattle.ep_journal.specs.File.{is_foreign, records_of, stands_for}
 use Rattle.ep_pad.specs.Opening.{IsFront}
-use Rattle.ep_verify.specs.Verdicts.{IsStanding, IsWhat, Tells, no_limits}
-use Rattle.ep_verify.specs.declared.verdict.What.{What}
-use Rattle.ep_verify.specs.declared.verdict.What.TheVariants.{Whole, Absent, Foreign, BadRecord}
+use Rattle.ep_verify.specs.Verdicts.{Tells, no_limits}
 
 -- a file that stands for records is a journal, and they are its records
 pub record IsJournal (file : List ℕ) (records : List (List ℕ)) : Type 0 where
@@ -35,13 +30,3 @@ tells-all file records rs stands front =
       legal = front.legal;
       are_told = refl;
     }
-
-what-stands : (file : List ℕ) (pad : PadState) (w : What) → Tells file pad → IsStanding pad w → IsWhat file w
-what-stands file pad (Whole h u) t s = (pad, t, s)
-what-stands file pad Absent t s = (pad, t, s)
-what-stands file pad Foreign t s = absurd s
-what-stands file pad (BadRecord k) t s = absurd s
-
-pub ok-stands : (file : List ℕ) (pad : PadState) (r : Result What NoMemory) → Tells file pad → IfOk r (IsStanding pad) → IfOk r (IsWhat file)
-ok-stands file pad (Ok w) t s = what-stands file pad w t s
-ok-stands file pad (Err e) t s = tt

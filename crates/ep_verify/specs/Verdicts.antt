@@ -1,15 +1,15 @@
 -- What the file of a pad is.
-use Rattle.std.specs.Prelude.{◌≡◌, ℕ, List, true, false, length}
+use Rattle.std.specs.Prelude.{◌≡◌, ◌<◌, ◌≤◌, ◌+◌, ℕ, List, ◌∷◌, ◌++◌, drop, true, false, length}
 use Rattle.ep_outside.specs.declared.limits.Limits.{Limits}
 use Rattle.ep_history.specs.History.{head, head_doc}
 use Rattle.ep_history.specs.Pad.{PadState, newest}
 use Rattle.ep_history.specs.Records.{AreLegal, told}
 use Rattle.ep_history.specs.declared.record.Record.{Record}
-use Rattle.ep_journal.specs.File.{is_foreign}
+use Rattle.ep_journal.specs.File.{closed_gate, header, is_foreign, records_of}
 use Rattle.ep_pad_file.specs.Standing.{StandsFor}
 use Rattle.ep_pad.specs.Opening.{IsBadAt}
 use Rattle.ep_verify.specs.declared.verdict.What.{What}
-use Rattle.ep_verify.specs.declared.verdict.What.TheVariants.{Whole, Absent, Foreign, BadRecord}
+use Rattle.ep_verify.specs.declared.verdict.What.TheVariants.{Whole, Absent, Foreign, BadRecord, Behind}
 
 -- records are judged under no limit, since none decides what they make of a pad
 abbrev pub no_limits : Limits
@@ -28,9 +28,17 @@ IsStanding pad (Whole h units) = (pad.present ≡ true) × (h ≡ head (newest p
 IsStanding pad Absent = pad.present ≡ false
 IsStanding pad Foreign = ⊥
 IsStanding pad (BadRecord k) = ⊥
+IsStanding pad (Behind n) = ⊥
 
--- the pad that a file tells; or it is no journal; or its record of this index is the first that is none, or can't come there
+-- how many whole records stand behind the first closed gate: those of a journal that begins there, with its gate open
+abbrev pub behind : List ℕ → ℕ
+behind file = length (records_of (header ++ 1 ∷ drop (closed_gate file + 1) file))
+
+-- The pad that a file tells, with at most one record behind it, which an append that broke off may leave; or it is no
+-- journal; or its record of this index is the first that is none, or can't come there; or it tells a pad, and so many
+-- records stand behind it.
 abbrev pub IsWhat : List ℕ → What → Type 0
 IsWhat file Foreign = is_foreign file ≡ true
 IsWhat file (BadRecord k) = (is_foreign file ≡ false) × IsBadAt no_limits file k
-IsWhat file what = (pad : PadState) × Tells file pad × IsStanding pad what
+IsWhat file (Behind n) = (pad : PadState) × Tells file pad × (1 < n) × (n ≡ behind file)
+IsWhat file what = (pad : PadState) × Tells file pad × IsStanding pad what × (behind file ≤ 1)

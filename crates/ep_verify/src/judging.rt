@@ -1,15 +1,16 @@
 //! Judging one file.
 
-ghost use Rattle.std.specs.Prelude.{◌≡◌, ℕ, List, true, false, length, IfOk, IfErr};
+ghost use Rattle.std.specs.Prelude.{◌≡◌, ℕ, List, Some, true, false, length, IfOk, IfErr};
 ghost use Rattle.ep_history.specs.Pad.{PadState};
 ghost use Rattle.ep_history.specs.Records.{told};
 ghost use Rattle.ep_history.specs.declared.record.Record.{Record};
-ghost use Rattle.ep_journal.specs.File.{records_of};
+ghost use Rattle.ep_journal.specs.File.{records_of, stands_for};
 ghost use Rattle.ep_pad.specs.Opening.{IsBadAt, IsFront};
 ghost use Rattle.ep_pad_state.specs.Held.{IsPad};
-ghost use Rattle.ep_verify.specs.Verdicts.{IsStanding, IsWhat, no_limits};
+ghost use Rattle.ep_verify.specs.Verdicts.{IsStanding, IsWhat, Tells, no_limits};
 ghost use Rattle.ep_verify.specs.declared.judging.Unread.TheVariants as unread;
 
+use crate::behind::count_behind;
 use crate::verdict::What;
 use ep_history::PadBad;
 use ep_journal::{Records, scan};
@@ -79,6 +80,18 @@ fn standing(alloc: Global, pad: &Pad) -> Result<What, NoMemory>
     }
 }
 
+/// What a file with these records, which tell this pad, is.
+fn on_pad(alloc: Global, bytes: &[u8], records: &Records, pad: &Pad) -> Result<What, NoMemory>
+    requires { stands_for bytes.now ≡ Some records.now }
+    ensures { (p : PadState) → Tells bytes.now p → IsPad pad.now p → IfOk result (IsWhat bytes.now) }
+{
+    let behind = count_behind(alloc, bytes, records)?;
+    if behind > 1 {
+        return Ok(What::Behind(behind));
+    }
+    standing(alloc, pad)
+}
+
 /// What the bytes of a file are.
 pub fn judge(alloc: Global, bytes: &[u8]) -> Result<What, NoMemory>
     ensures { IfOk result (IsWhat bytes.now) }
@@ -87,7 +100,7 @@ pub fn judge(alloc: Global, bytes: &[u8]) -> Result<What, NoMemory>
         return Ok(What::Foreign);
     };
     match reread(alloc, &records) {
-        Ok(pad) => standing(alloc, &pad),
+        Ok(pad) => on_pad(alloc, bytes, &records, &pad),
         Err(Unread::At(i)) => Ok(What::BadRecord(i)),
         Err(Unread::NoMemory) => Err(NoMemory),
     }

@@ -5,6 +5,7 @@
 //! verdict looks like.
 #![tactic(auto)]
 
+mod behind;
 mod file;
 mod judging;
 mod laws;

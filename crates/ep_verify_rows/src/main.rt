@@ -29,6 +29,7 @@ fn said(alloc: Global, what: What) -> Result<String> {
         What::Absent => format!(in alloc; "absent")?,
         What::Foreign => format!(in alloc; "foreign")?,
         What::BadRecord(index) => format!(in alloc; "record {index}")?,
+        What::Behind(count) => format!(in alloc; "behind {count}")?,
     })
 }
 

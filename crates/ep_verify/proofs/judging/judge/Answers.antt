@@ -2,7 +2,7 @@ use Rattle.std.proofs.Common.{◌∙◌, sym, subst}
 use Rattle.ep_history.specs.Records.{told}
 use Rattle.ep_pad.specs.Opening.{IsBadAt}
 use Rattle.ep_verify.specs.Verdicts.{no_limits}
-use Rattle.ep_verify.proofs.Rereading.{journal, ok-stands, tells-all}
+use Rattle.ep_verify.proofs.Rereading.{journal, tells-all}
 use Rattle.ep_verify.proofs.judging.judge.Goals as goal
 
 pub returns-in-Ok : goal.returns-in-Ok
@@ -10,7 +10,7 @@ returns-in-Ok c =
     let file = c.args.bytes.now in
     let stands = sym c.in_ok-records.ensures ∙ c.in-Some.is in
     let p = c.in-Ok.ensures.pad file (journal file c.in-Some.records stands).are in
-    ok-stands file (told no_limits p.0) c.standing.result (tells-all file c.in-Some.records p.0 stands p.1) (c.standing.ensures (told no_limits p.0) p.2)
+    c.on_pad.ensures (told no_limits p.0) (tells-all file c.in-Some.records p.0 stands p.1) p.2
 
 pub returns-in-Err-At : goal.returns-in-Err-At
 returns-in-Err-At c =
