@@ -5,10 +5,10 @@ use crate::shelf::RealShelf;
 use crate::spoken::{Spoken, spoken_by};
 use ep_doors::{Host, Job, ThreadSpawner};
 use ep_edge::{StdSink, StdSource, SysClock, SysDraws};
-use ep_keep_far::FarKeeper;
+use ep_keep_far::{Desk, FarKeeper};
 use ep_keep_sql::{FileKeeper, SqlKeeper};
 use ep_net::{ApiStream, Bounds, TcpDoors, WakeEar, WsLink, connections_under};
-use ep_outside::Limits;
+use ep_outside::{Keeper, Limits};
 use ep_pad_port::House;
 use ep_run::{Status, run};
 use ep_serve::{Server, Work};
@@ -41,8 +41,11 @@ const LIMITS: Limits = Limits {
     pads: 10_000,
 };
 
+/// A database that another thread has.
+type RealKeeper<R> = FarKeeper<R, FileKeeper>;
+
 /// The pads of a folder, and their directory, whose database another thread has.
-type RealHouse<R> = House<RealShelf, FarKeeper<R>>;
+type RealHouse<R> = House<RealShelf, RealKeeper<R>>;
 
 /// What `ep_serve` does for a caller.
 type RealWork<R> = Work<RealHouse<R>, WsLink<R>, ApiStream<R>, SysClock<R>, SysDraws<R>>;
@@ -108,7 +111,7 @@ fn doors_of<R: Files<File = File> + Net + RandomSource + Clock + AllocGlobal + C
 
 /// The database in a server's folder, which its owner alone reads. Where it can't be opened, each call of it fails; none
 /// is there without a folder, or without memory for it.
-pub fn keeper_in(rt: &HostRuntime, folder: &str) -> Option<FileKeeper> {
+fn keeper_in(rt: &HostRuntime, folder: &str) -> Option<FileKeeper> {
     if folder.is_empty() {
         return None;
     }
@@ -122,6 +125,19 @@ pub fn keeper_in(rt: &HostRuntime, folder: &str) -> Option<FileKeeper> {
     SqlKeeper::open(rt, path.as_str()).ok()
 }
 
+/// A keeper that asks the database in a server's folder, and the desk where it is asked; none where it can't be read.
+pub fn desk_in<R: Wait + Drop>(
+    rt: R,
+    host: &HostRuntime,
+    folder: &str,
+) -> Option<(RealKeeper<R>, Desk<FileKeeper>)> {
+    let mut kept = keeper_in(host, folder)?;
+    if kept.get("").is_err() {
+        return None;
+    }
+    FarKeeper::new(rt, host.alloc(), kept).ok()
+}
+
 /// Runs the program over the real devices. Those that the words don't speak of fail. Where a person watches standard
 /// error, it shows there how far long work is.
 pub fn run_real<R>(
@@ -129,7 +145,7 @@ pub fn run_real<R>(
     is_watched: bool,
     words: &[String],
     opened: Opened,
-    keeper: FarKeeper<R>,
+    keeper: RealKeeper<R>,
     mut spawner: ThreadSpawner<RealJob<R>>,
 ) -> Result<Status, Missing>
 where
