@@ -58,6 +58,8 @@ pub struct Answer<K> {
     pub after: Snapshot<K>,
 }
 
+unsafe impl<K> Send for Answer<K> {}
+
 impl<K> Answer<K> {
     pub(crate) fn into_said(self) -> Said
         ensures { result ≡ self.said }

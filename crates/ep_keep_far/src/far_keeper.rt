@@ -31,6 +31,8 @@ pub struct FarKeeper<R, K: Keeper> {
     ghost met: { (is_lost || is_some (last_left (received answers))) ≡ true },
 }
 
+unsafe impl<R: Send, K: Keeper> Send for FarKeeper<R, K> {}
+
 impl<R: Drop, K: Keeper> Drop for FarKeeper<R, K> {
     fn drop(self) {
         let FarKeeper {
