@@ -1,5 +1,5 @@
 -- What a desk's answers say, and what a far keeper tells by them.
-use Rattle.std.specs.Prelude.{◌≡◌, Bool, true, false, List, [], ◌∷◌, ◌++◌, Option, Some, None, is_some, MatchOption, MatchResult, if◌then◌else◌, ◌||◌}
+use Rattle.std.specs.Prelude.{◌≡◌, Bool, true, false, List, [], ◌∷◌, ◌++◌, Option, Some, None, MatchOption, MatchResult, if◌then◌else◌}
 use Rattle.ep_outside.specs.Kept.{Gets, Lists, Puts as PutsAll, Rises, Stays}
 use Rattle.ep_outside.specs.declared.keeper.Pair.{Pair}
 use Rattle.ep_outside.specs.declared.keeper.Put.{Put}
