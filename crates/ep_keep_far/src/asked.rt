@@ -58,6 +58,7 @@ pub struct Answer<K> {
     pub after: Snapshot<K>,
 }
 
+// SAFETY: of the keeper it has snapshots alone, which have no bytes.
 unsafe impl<K> Send for Answer<K> {}
 
 impl<K> Answer<K> {

@@ -31,6 +31,7 @@ pub struct FarKeeper<R, K: Keeper> {
     ghost met: { (is_lost || is_some (last_left (received answers))) ≡ true },
 }
 
+// SAFETY: of the keeper it has no more than its answers have.
 unsafe impl<R: Send, K: Keeper> Send for FarKeeper<R, K> {}
 
 impl<R: Drop, K: Keeper> Drop for FarKeeper<R, K> {

@@ -19,7 +19,7 @@ use Rattle.ep_doors.specs.contracts.thread_spawner.ThreadSpawner as spawner
 use Rattle.ep_net.specs.contracts.api_stream.ApiStream as api_stream
 use Rattle.ep_ws.specs.contracts.watch.WakeEar as wake_ear
 use Rattle.ep_ws.specs.contracts.ws_link.WsLink as ws_link
-use Rattle.ep_keep_far.proofs.far_keeper.FarKeeper.TheSendSync as far_keeper
+use Rattle.ep_keep_far.proofs.Crossing.{far_send}
 
 pub shelf_sends : IsSend real_shelf.the_row
 shelf_sends = search (sendable, crosses) depth 30
@@ -55,4 +55,4 @@ ear_sends : IsSend wake_ear.the_row
 ear_sends = search (sendable, crosses) depth 100 fits 1000000
 
 pub job_sends : (R A B : RattleType) (w : wait.Ghosts R.Denot) → IsSend R → IsSync R → IsSend (real_job.the_row R A B w)
-job_sends R A B w r y = declared_send (real_job.the_type R A B w) (search (work_sends, house_send, house_sync, disk_sends, shelf_sends, far_keeper.the_send, machine.the_send, link_sends, stream_sends, clock_sends, clock_syncs, draws_sends, ear_sends) depth 100 fits 1000000, tt)
+job_sends R A B w r y = declared_send (real_job.the_type R A B w) (search (work_sends, house_send, house_sync, disk_sends, shelf_sends, far_send, machine.the_send, link_sends, stream_sends, clock_sends, clock_syncs, draws_sends, ear_sends) depth 100 fits 1000000, tt)
