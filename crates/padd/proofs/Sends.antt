@@ -9,6 +9,7 @@ use Rattle.ep_pad.proofs.machine.PadMachine.TheSendSync as machine
 use Rattle.ep_pad_port.proofs.Crossing.{house_send, house_sync}
 use Rattle.ep_serve.proofs.work.Work.TheSendSync as work
 use Rattle.ep_serve.specs.contracts.work.Work as served
+use Rattle.padd.specs.contracts.keeping.Teller as teller
 use Rattle.padd.specs.contracts.real.RealJob as real_job
 use Rattle.padd.specs.contracts.missing.Opened as opened
 use Rattle.padd.specs.contracts.shelf.RealDisk as real_disk
@@ -29,6 +30,9 @@ opened_sends = search (sendable, crosses, shelf_sends) depth 30
 
 pub disk_sends : IsSend real_disk.the_row
 disk_sends = search (sendable, crosses) depth 30
+
+pub teller_sends : (R : RattleType) → IsSend R → IsSend (teller.the_row R)
+teller_sends R r = declared_send (teller.the_type R) (search (sendable, crosses, far_send) depth 100 fits 1000000, tt)
 
 pub spawner_sends : (J : RattleType) → IsSend J → IsSend (spawner.the_row J)
 spawner_sends J j = search (sendable, crosses) depth 100 fits 1000000

@@ -3,21 +3,21 @@
 //! All that the program does is `run`, over any devices; `main` makes the real ones.
 #![tactic(auto)]
 
+mod keeping;
 mod missing;
 mod real;
 mod shelf;
 mod spoken;
 
-use crossbeam_channel::bounded;
 use ep_doors::{ThreadSpawner, start_all};
-use ep_keep_far::FarKeeper;
+use keeping::kept_afar;
 use missing::{Missing, Opened};
-use real::{RealJob, desk_in, run_real};
+use real::{RealJob, run_real};
 use spoken::spoken_by;
 use std::io::{ErrorKind, IsTerminal};
 use std::process::ExitCode;
 use std::thread::join;
-use std::{env, io, thread};
+use std::{env, io};
 
 /// The words behind the program's name, or none where one is not UTF-8.
 fn given_words(rt: &HostRuntime) -> io::Result<Vec<String>> {
@@ -77,27 +77,10 @@ fn main(rt: HostRuntime) -> ExitCode {
     let Ok((spawner, starter)) = ThreadSpawner::<RealJob<HostRuntime>>::new(rt.alloc()) else {
         return lacking(&rt, Missing::Memory);
     };
-    let Ok((tell, told)) = bounded(rt.alloc(), 1) else {
-        return lacking(&rt, Missing::Memory);
-    };
     // The database stays in the thread that opens it, which ends with the program.
-    let kept = thread::spawn(&rt, move || {
-        if let Some((keeper, mut desk)) = desk_in(rt, &rt, folder.as_str()) {
-            let _heard = tell.send(&rt, keeper);
-            desk.answer_all(&rt);
-        }
-    });
-    if kept.is_err() {
-        return lacking(&rt, Missing::Thread);
-    }
-    // Without a database the directory's calls fail.
-    let keeper = match told.recv(&rt) {
-        Ok(keeper) => keeper,
-        Err(_) if serves => return lacking(&rt, Missing::Database),
-        Err(_) => match FarKeeper::alone(rt, rt.alloc()) {
-            Ok(keeper) => keeper,
-            Err(_) => return lacking(&rt, Missing::Memory),
-        },
+    let keeper = match kept_afar(rt, rt, folder.as_str(), serves) {
+        Ok((keeper, _thread)) => keeper,
+        Err(missing) => return lacking(&rt, missing),
     };
     let is_watched = rt.stderr().is_terminal();
     // What the words ask for has a thread of its own; this one starts those of its jobs.

@@ -1,23 +1,21 @@
 //! The real devices.
 
+use crate::keeping::RealKeeper;
 use crate::missing::{Missing, Opened, judged_at};
 use crate::shelf::RealShelf;
 use crate::spoken::{Spoken, spoken_by};
 use ep_doors::{Host, Job, ThreadSpawner};
 use ep_edge::{StdSink, StdSource, SysClock, SysDraws};
-use ep_keep_far::{Desk, FarKeeper};
-use ep_keep_sql::{FileKeeper, SqlKeeper};
 use ep_net::{ApiStream, Bounds, TcpDoors, WakeEar, WsLink, connections_under};
-use ep_outside::{Keeper, Limits};
+use ep_outside::Limits;
 use ep_pad_port::House;
 use ep_run::{Status, run};
 use ep_serve::{Server, Work};
 use ep_shown::ShownShelf;
 use ep_units::NoMemory;
-use std::fs::{File, Files, OpenOptions};
+use std::fs::{File, Files};
 use std::io::{Eprint, Input, Print};
 use std::net::Net;
-use std::os::unix::fs::OpenOptionsExt;
 use std::random::RandomSource;
 use std::sync::Wait;
 use std::thread::Threads;
@@ -26,9 +24,6 @@ use std::{fs, io};
 
 // Where the system tells what a process may have.
 const LIMITS_OF_PROCESS: &str = "/proc/self/limits";
-
-// Read and written by the owner alone.
-const OWNER_ALONE: u32 = 0o600;
 
 /// What the pads of a server are held to: sessions at a time and in all of one opening, units of a text, bytes of a
 /// pad's file, and pads that are open.
@@ -40,9 +35,6 @@ const LIMITS: Limits = Limits {
     openings: 65_536,
     pads: 10_000,
 };
-
-/// A database that another thread has.
-type RealKeeper<R> = FarKeeper<R, FileKeeper>;
 
 /// The pads of a folder, and their directory, whose database another thread has.
 type RealHouse<R> = House<RealShelf, RealKeeper<R>>;
@@ -107,35 +99,6 @@ fn doors_of<R: Files<File = File> + Net + RandomSource + Clock + AllocGlobal + C
         return Err(Missing::Address);
     }
     Ok(doors)
-}
-
-/// The database in a server's folder, which its owner alone reads. Where it can't be opened, each call of it fails; none
-/// is there without a folder, or without memory for it.
-fn keeper_in(rt: &HostRuntime, folder: &str) -> Option<FileKeeper> {
-    if folder.is_empty() {
-        return None;
-    }
-    let path = format!(in rt.alloc(); "{folder}/directory.db").ok()?;
-    // Where it can't be made, it can't be opened either.
-    let _made = OpenOptions::new()
-        .write(true)
-        .create(true)
-        .mode(OWNER_ALONE)
-        .open(rt, path.as_str());
-    SqlKeeper::open(rt, path.as_str()).ok()
-}
-
-/// A keeper that asks the database in a server's folder, and the desk where it is asked; none where it can't be read.
-pub fn desk_in<R: Wait + Drop>(
-    rt: R,
-    host: &HostRuntime,
-    folder: &str,
-) -> Option<(RealKeeper<R>, Desk<FileKeeper>)> {
-    let mut kept = keeper_in(host, folder)?;
-    if kept.get("").is_err() {
-        return None;
-    }
-    FarKeeper::new(rt, host.alloc(), kept).ok()
 }
 
 /// Runs the program over the real devices. Those that the words don't speak of fail. Where a person watches standard
