@@ -3,13 +3,13 @@ use denote.RattleType.{RattleType}
 use denote.Param.Send.{IsSend, IsSync, sendable}
 use denote.Param.SendFields.{declared_send, as_row_send}
 use denote.Hole.{as_row}
-use denote.Struct.Field.{row_field}
 use Rattle.std.specs.declared.sync.Wait as wait
 use Rattle.std.proofs.Crossing.{crosses}
 use Rattle.ep_pad.proofs.machine.PadMachine.TheSendSync as machine
 use Rattle.ep_pad_port.proofs.Crossing.{house_send, house_sync}
 use Rattle.ep_serve.proofs.work.Work.TheSendSync as work
 use Rattle.ep_serve.specs.contracts.work.Work as served
+use Rattle.padd.specs.contracts.keeping.Teller as teller
 use Rattle.padd.specs.contracts.real.RealJob as real_job
 use Rattle.padd.specs.contracts.missing.Opened as opened
 use Rattle.padd.specs.contracts.shelf.RealDisk as real_disk
@@ -20,7 +20,7 @@ use Rattle.ep_doors.specs.contracts.thread_spawner.ThreadSpawner as spawner
 use Rattle.ep_net.specs.contracts.api_stream.ApiStream as api_stream
 use Rattle.ep_ws.specs.contracts.watch.WakeEar as wake_ear
 use Rattle.ep_ws.specs.contracts.ws_link.WsLink as ws_link
-use Rattle.ep_keep_far.specs.contracts.far_keeper.FarKeeper as far_keeper
+use Rattle.ep_keep_far.proofs.Crossing.{far_send}
 
 pub shelf_sends : IsSend real_shelf.the_row
 shelf_sends = search (sendable, crosses) depth 30
@@ -31,8 +31,8 @@ opened_sends = search (sendable, crosses, shelf_sends) depth 30
 pub disk_sends : IsSend real_disk.the_row
 disk_sends = search (sendable, crosses) depth 30
 
-pub keeper_sends : (R : RattleType) → IsSend R → IsSend (far_keeper.the_row R)
-keeper_sends R r = declared_send (far_keeper.the_type R) (as_row_send (row_field R) r, (search (sendable, crosses) depth 30, (search (sendable, crosses) depth 100 fits 1000000, (search (sendable, crosses) depth 100 fits 1000000, (search (sendable, crosses) depth 30, tt)))))
+pub teller_sends : (R : RattleType) → IsSend R → IsSend (teller.the_row R)
+teller_sends R r = declared_send (teller.the_type R) (search (sendable, crosses, far_send) depth 100 fits 1000000, tt)
 
 pub spawner_sends : (J : RattleType) → IsSend J → IsSend (spawner.the_row J)
 spawner_sends J j = search (sendable, crosses) depth 100 fits 1000000
@@ -59,4 +59,4 @@ ear_sends : IsSend wake_ear.the_row
 ear_sends = search (sendable, crosses) depth 100 fits 1000000
 
 pub job_sends : (R A B : RattleType) (w : wait.Ghosts R.Denot) → IsSend R → IsSync R → IsSend (real_job.the_row R A B w)
-job_sends R A B w r y = declared_send (real_job.the_type R A B w) (search (work_sends, house_send, house_sync, disk_sends, shelf_sends, keeper_sends, machine.the_send, link_sends, stream_sends, clock_sends, clock_syncs, draws_sends, ear_sends) depth 100 fits 1000000, tt)
+job_sends R A B w r y = declared_send (real_job.the_type R A B w) (search (work_sends, house_send, house_sync, disk_sends, shelf_sends, far_send, machine.the_send, link_sends, stream_sends, clock_sends, clock_syncs, draws_sends, ear_sends) depth 100 fits 1000000, tt)

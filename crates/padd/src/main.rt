@@ -3,22 +3,21 @@
 //! All that the program does is `run`, over any devices; `main` makes the real ones.
 #![tactic(auto)]
 
+mod keeping;
 mod missing;
 mod real;
 mod shelf;
 mod spoken;
 
-use crossbeam_channel::bounded;
 use ep_doors::{ThreadSpawner, start_all};
-use ep_keep_far::{Desk, FarKeeper};
-use ep_outside::Keeper;
+use keeping::kept_afar;
 use missing::{Missing, Opened};
-use real::{RealJob, keeper_in, run_real};
+use real::{RealJob, run_real};
 use spoken::spoken_by;
 use std::io::{ErrorKind, IsTerminal};
 use std::process::ExitCode;
 use std::thread::join;
-use std::{env, io, thread};
+use std::{env, io};
 
 /// The words behind the program's name, or none where one is not UTF-8.
 fn given_words(rt: &HostRuntime) -> io::Result<Vec<String>> {
@@ -39,24 +38,19 @@ struct Begun {
     serves: bool,
     folder: String,
     opened: Opened,
-    keeper: FarKeeper<HostRuntime>,
-    desk: Desk,
 }
 
 impl Begun {
-    /// What the words speak of, opened, and the keeper that another thread is to have.
+    /// What the words speak of, opened.
     fn by(rt: HostRuntime, words: &[String]) -> Result<Begun, Missing> {
         let alloc = rt.alloc();
         let spoken = spoken_by(alloc, words);
         let opened = Opened::by(&rt, &spoken)?;
         let folder = String::from_str(alloc, spoken.folder)?;
-        let (keeper, desk) = FarKeeper::new(rt, alloc)?;
         Ok(Begun {
             serves: spoken.serves,
             folder,
             opened,
-            keeper,
-            desk,
         })
     }
 }
@@ -79,28 +73,15 @@ fn main(rt: HostRuntime) -> ExitCode {
         serves,
         folder,
         opened,
-        keeper,
-        desk,
     } = begun;
     let Ok((spawner, starter)) = ThreadSpawner::<RealJob<HostRuntime>>::new(rt.alloc()) else {
         return lacking(&rt, Missing::Memory);
     };
-    let Ok((tell, told)) = bounded(rt.alloc(), 1) else {
-        return lacking(&rt, Missing::Memory);
-    };
     // The database stays in the thread that opens it, which ends with the program.
-    let kept = thread::spawn(&rt, move || {
-        if let Some(mut kept) = keeper_in(&rt, folder.as_str()) {
-            let _heard = tell.send(&rt, kept.get("").is_ok());
-            desk.answer_all(&rt, &mut kept);
-        }
-    });
-    if kept.is_err() {
-        return lacking(&rt, Missing::Thread);
-    }
-    if serves && !told.recv(&rt).unwrap_or(false) {
-        return lacking(&rt, Missing::Database);
-    }
+    let keeper = match kept_afar(rt, rt, folder.as_str(), serves) {
+        Ok((keeper, _thread)) => keeper,
+        Err(missing) => return lacking(&rt, missing),
+    };
     let is_watched = rt.stderr().is_terminal();
     // What the words ask for has a thread of its own; this one starts those of its jobs.
     let (ended, ()) = join(

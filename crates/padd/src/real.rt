@@ -1,12 +1,11 @@
 //! The real devices.
 
+use crate::keeping::RealKeeper;
 use crate::missing::{Missing, Opened, judged_at};
 use crate::shelf::RealShelf;
 use crate::spoken::{Spoken, spoken_by};
 use ep_doors::{Host, Job, ThreadSpawner};
 use ep_edge::{StdSink, StdSource, SysClock, SysDraws};
-use ep_keep_far::FarKeeper;
-use ep_keep_sql::{FileKeeper, SqlKeeper};
 use ep_net::{ApiStream, Bounds, TcpDoors, WakeEar, WsLink, connections_under};
 use ep_outside::Limits;
 use ep_pad_port::House;
@@ -14,10 +13,9 @@ use ep_run::{Status, run};
 use ep_serve::{Server, Serving};
 use ep_shown::ShownShelf;
 use ep_units::NoMemory;
-use std::fs::{File, Files, OpenOptions};
+use std::fs::{File, Files};
 use std::io::{Eprint, Input, Print};
 use std::net::Net;
-use std::os::unix::fs::OpenOptionsExt;
 use std::random::RandomSource;
 use std::sync::Wait;
 use std::thread::Threads;
@@ -26,9 +24,6 @@ use std::{fs, io};
 
 // Where the system tells what a process may have.
 const LIMITS_OF_PROCESS: &str = "/proc/self/limits";
-
-// Read and written by the owner alone.
-const OWNER_ALONE: u32 = 0o600;
 
 /// What the pads of a server are held to: sessions at a time and in all of one opening, units of a text, bytes of a
 /// pad's file, and pads that are open.
@@ -42,7 +37,7 @@ const LIMITS: Limits = Limits {
 };
 
 /// The pads of a folder, and their directory, whose database another thread has.
-type RealHouse<R> = House<RealShelf, FarKeeper<R>>;
+type RealHouse<R> = House<RealShelf, RealKeeper<R>>;
 
 /// What `ep_serve` does for a caller.
 type RealWork<R> = Serving<RealHouse<R>, WsLink<R>, ApiStream<R>, SysClock<R>, SysDraws<R>>;
@@ -106,22 +101,6 @@ fn doors_of<R: Files<File = File> + Net + RandomSource + Clock + AllocGlobal + C
     Ok(doors)
 }
 
-/// The database in a server's folder, which its owner alone reads. Where it can't be opened, each call of it fails; none
-/// is there without a folder, or without memory for it.
-pub fn keeper_in(rt: &HostRuntime, folder: &str) -> Option<FileKeeper> {
-    if folder.is_empty() {
-        return None;
-    }
-    let path = format!(in rt.alloc(); "{folder}/directory.db").ok()?;
-    // Where it can't be made, it can't be opened either.
-    let _made = OpenOptions::new()
-        .write(true)
-        .create(true)
-        .mode(OWNER_ALONE)
-        .open(rt, path.as_str());
-    SqlKeeper::open(rt, path.as_str()).ok()
-}
-
 /// Runs the program over the real devices. Those that the words don't speak of fail. Where a person watches standard
 /// error, it shows there how far long work is.
 pub fn run_real<R>(
@@ -129,7 +108,7 @@ pub fn run_real<R>(
     is_watched: bool,
     words: &[String],
     opened: Opened,
-    keeper: FarKeeper<R>,
+    keeper: RealKeeper<R>,
     mut spawner: ThreadSpawner<RealJob<R>>,
 ) -> Result<Status, Missing>
 where

@@ -33,7 +33,7 @@ fn count<K: Keeper>(keeper: &mut K, prefix: &str) -> Result<usize, KeepBad> {
 /// many were listed, and the faults.
 fn calls<R: Wait + Drop>(
     alloc: Global,
-    mut keeper: FarKeeper<R>,
+    mut keeper: FarKeeper<R, MapKeeper>,
 ) -> Result<(bool, bool, usize, u64), KeepBad> {
     put(alloc, &mut keeper, "a/1", "x")?;
     let is_got = is_got(&mut keeper, "a/1", "x")?;
@@ -45,13 +45,18 @@ fn calls<R: Wait + Drop>(
 #[test]
 fn calls_are_made_by_another_thread(rt: HostRuntime) -> Result<(), Fail> {
     let alloc = rt.alloc();
-    let (keeper, desk) = FarKeeper::new(rt, alloc)?;
-    let mut map = MapKeeper::new(alloc, vec![in alloc; 3]?);
-    let (came, ()) = join(
-        &rt,
-        move || calls(alloc, keeper),
-        || desk.answer_all(&rt, &mut map),
-    );
+    let map = MapKeeper::new(alloc, vec![in alloc; 3]?);
+    let (keeper, mut desk) = FarKeeper::new(rt, alloc, map)?;
+    let (came, ()) = join(&rt, move || calls(alloc, keeper), || desk.answer_all(&rt));
     assert_eq!(rt; came?, (true, true, 1, 1));
+    Ok(())
+}
+
+#[test]
+fn each_call_fails_without_a_desk(rt: HostRuntime) -> Result<(), Fail> {
+    let alloc = rt.alloc();
+    let mut keeper = FarKeeper::<HostRuntime, MapKeeper>::alone(rt, alloc)?;
+    assert!(rt; is_refused(&mut keeper, "a/1"));
+    assert_eq!(rt; keeper.faults(), 1);
     Ok(())
 }
