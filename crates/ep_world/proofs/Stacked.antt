@@ -7,7 +7,8 @@ use Rattle.ep_cs.specs.EditFits.{fits}
 use Rattle.ep_cs.specs.Fits.{is_identity}
 use Rattle.ep_history.specs.Entry.{opened}
 use Rattle.ep_history.specs.History.{head, head_doc}
-use Rattle.ep_history.specs.Kept.{KeptClient, is_kept_own, kept_edited, kept_heard, kept_nop, kept_started, kept_submitted}
+use Rattle.ep_history.specs.Kept.{KeptClient, is_kept_own, kept_dropped, kept_edited, kept_heard, kept_nop, kept_other, kept_own, kept_started, kept_submitted}
+use Rattle.ep_invert.specs.Inverse.{inverse}
 use Rattle.ep_history.specs.Pad.{PadState, newest, next_session}
 use Rattle.ep_history.specs.Refusals.{login_fault, resume_fault}
 use Rattle.ep_history.specs.declared.pad_bad.PadBad.{PadBad}
@@ -20,9 +21,8 @@ use Rattle.ep_schedule.specs.World.Event.{Create, SetText, Delete, Login, Visit,
 use Rattle.ep_schedule.specs.Kepts.{kept_put as client_put, kept_login_if as client_login_if, kept_login as client_login, kept_edit as client_edit, kept_after_submit as client_after_submit, kept_submit as client_submit, kept_hear_first as client_hear_first, kept_hear as client_hear, kept_lose as client_lose, kept_resume_if as client_resume_if, kept_resume as client_resume, kept_happens as client_happens, Kepts as AreClients}
 use Rattle.ep_event.specs.declared.event.Event.{Event as Told}
 use Rattle.ep_event.specs.declared.event.Event.TheVariants as told
-use Rattle.ep_undo.specs.Undo.{UndoState, redone, redone_by, top, undo_edited, undo_hears_rev, undo_lost, undo_resumes, undo_started, undone, undone_by, with_client}
+use Rattle.ep_undo.specs.Undo.{UndoState, pushed, redone, redone_by, top, undo_edited, undo_hears_rev, undo_lost, undo_other, undo_resumes, undo_started, undone, undone_by, with_client}
 use Rattle.ep_world.specs.Events.{event_at, kept_happened, made_top, of_client}
-use Rattle.ep_world.specs.Journal.{is_shut}
 use Rattle.ep_world.specs.Kepts.{Kepts, clients_of, kept_after_submit, kept_edit, kept_happens, kept_hear, kept_hear_first, kept_login, kept_login_if, kept_lose, kept_put, kept_remake, kept_resume, kept_resume_if, kept_steps, kept_submit}
 use Rattle.ep_world.specs.Standing.{overfull_at}
 
@@ -43,12 +43,16 @@ put-of ks n k = fun_ext (λ m. go m (text_eq m n))
 edited-of : (e : Edit) (k : UndoState) → (undo_edited e k).client ≡ kept_edited e k.client
 edited-of e k = go (is_identity e)
   where
-    go : (b : Bool) → (if b then with_client k (kept_edited e k.client) else record (undo_edited e k) { client = kept_edited e k.client }).client ≡ kept_edited e k.client
+    go : (b : Bool) → (if b then with_client k (kept_edited e k.client) else record { client = kept_edited e k.client; undos = pushed (inverse e k.client.view) k.undos; redos = [] }).client ≡ kept_edited e k.client
     go true = refl
     go false = refl
 
 heard-of : (v : Rev) (k : UndoState) → (undo_hears_rev v.change v.session k).client ≡ kept_heard v k.client
-heard-of v k = cc
+heard-of v k = go (is_kept_own v.session k.client.sent_in)
+  where
+    go : (b : Bool) → (if b then with_client k (kept_own k.client) else undo_other v.change.edit k).client ≡ (if b then kept_own k.client else kept_dropped (kept_other v.change.edit k.client))
+    go true = refl
+    go false = refl
 
 login-if-of : (pad : PadState) (ks : Kepts) (n : Name) (f : Option PadBad) → clients_of (kept_login_if pad ks n f) ≡ client_login_if pad (clients_of ks) n f
 login-if-of pad ks n (Some b) = refl
