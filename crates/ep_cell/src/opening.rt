@@ -1,6 +1,6 @@
 //! A cell is made.
 
-ghost use Rattle.std.specs.Prelude.{◌≡◌, [], ◌∷◌, Some, None, IfOk, IfErr, OnOk, IsOkAnd, IsSome};
+ghost use Rattle.std.specs.Prelude.{◌≡◌, [], ◌∷◌, Some, None, IfOk, IfErr, OnOk, IsOk, IsSome};
 ghost use Rattle.ep_cell.specs.declared.view.Held.{Held};
 ghost use Rattle.ep_cell.specs.Passes.{first_of};
 
@@ -46,7 +46,8 @@ impl<M: Machine> Cell<M> {
     ) -> Result<Cell<M>, Refused<M, NoMemory>>
         requires ok { IfOk made (λ t. (t.0.shared.table_id.words ≡ 3) × (t.0.shared.table_id.slots ≡ 1) × (t.0.shared.key ≡ first)) }
         requires err { IfErr made (λ r. (h : Held M M.Entry M.Reply) × (r.slots.items ≡ h ∷ []) × IsSome h.machine) }
-        ensures ok { OnOk made (IsOkAnd result (λ cell. first_of cell ≡ first.value)) }
+        ensures ok { OnOk made (IsOk result) }
+        ensures first { IfOk result (λ cell. first_of cell ≡ first.value) }
         ensures err { IfErr made (λ e. IfErr result (λ r. (h : Held M M.Entry M.Reply) × (e.slots.items ≡ h ∷ []) × (h.machine ≡ Some r.back))) }
     {
         match made {

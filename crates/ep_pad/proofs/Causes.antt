@@ -1,5 +1,5 @@
 -- Why the file of a machine refuses.
-use Rattle.std.proofs.Common.{◌≡◌, ◌⊎◌, inl, inr, ℕ, ◌+◌, ◌≤◌, Bool, true, false, nat_lt, [], ◌∷◌, Option, Some, refl, sym, subst}
+use Rattle.std.proofs.Common.{◌≡◌, ◌⊎◌, inl, inr, ℕ, ◌+◌, ◌≤◌, Bool, true, false, nat_lt, [], ◌∷◌, Option, Some, refl, sym, ap, ◌∙◌, subst}
 use Rattle.ep_outside.specs.Disk.{Contents}
 use Rattle.ep_history.specs.Machine.{most_bytes}
 use Rattle.ep_history.specs.Refusals.{first_fault, fault_if}
@@ -60,6 +60,21 @@ long-refused length limit bytes before now bad (inr full) = go (nat_lt most_byte
     go true b is = subst (BeginRefused before now) (some_same is) tt
     go false true is = subst (BeginRefused before now) (some_same is) tt
     go false false is = none_some is
+
+-- neither an opening of the file nor an append is refused for a length
+pub open-unfilled : (told : Option Contents) (sure : Type 0) (before now n : ℕ) (bad : PadBad) → file.OpenRefused told sure before now bad → bad ≡ JournalFull n → ⊥
+open-unfilled told sure before now n (Store m) why is = absurd (cc)
+open-unfilled told sure before now n Foreign why is = absurd (cc)
+open-unfilled told sure before now n NoMemory why is = absurd (cc)
+open-unfilled told sure before now n bad why is = why
+
+pub append-unfilled : (sure : Type 0) (before now n : ℕ) (bad : PadBad) → AppendRefused sure before now bad → bad ≡ JournalFull n → ⊥
+append-unfilled sure before now n (Store m) why is = absurd (cc)
+append-unfilled sure before now n bad why is = why
+
+pub full-is : (n : ℕ) (bad : PadBad) (fault : Option PadBad) → (bad ≡ NoMemory) ⊎ (fault ≡ Some bad) → bad ≡ JournalFull n → fault ≡ Some (JournalFull n)
+full-is n bad fault (inl lacks) is = let e : NoMemory ≡ JournalFull n = sym lacks ∙ is in absurd (cc)
+full-is n bad fault (inr full) is = full ∙ ap (λ (b : PadBad). Some b) is
 
 pub file-refused : (told : Option Contents) (sure : Type 0) (before now : ℕ) (bad : PadBad) → file.OpenRefused told sure before now bad → OpenRefused told before now bad
 file-refused told sure before now (Store n) why = risen sure before now n why

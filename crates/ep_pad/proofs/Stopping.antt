@@ -9,10 +9,11 @@ use Rattle.ep_history.specs.Pad.{PadState}
 use Rattle.ep_history.specs.Records.{AreNext}
 use Rattle.ep_history.specs.Entries.{Entry, Answer, Reply, outcome, is_recordable}
 use Rattle.ep_history.specs.Entries.Outcome.{Records}
-use Rattle.ep_history.specs.Machine.{MachineState, IsKeptState, Turn, journal_fault, turn}
-use Rattle.ep_history.specs.Machine.IsOpenStep.{Does}
+use Rattle.ep_history.specs.Machine.{MachineState, IsKeptState, IsStepAs, IsThen, Turn, journal_fault, turn}
+use Rattle.ep_history.specs.Machine.IsClosedStep.{LacksOpening}
+use Rattle.ep_history.specs.Machine.IsOpenStep.{Does, Lacks}
 use Rattle.ep_history.specs.declared.pad_bad.PadBad.{PadBad}
-use Rattle.ep_history.specs.declared.pad_bad.PadBad.TheVariants.{NoMemory, Store}
+use Rattle.ep_history.specs.declared.pad_bad.PadBad.TheVariants.{JournalFull, NoMemory, Store}
 use Rattle.ep_history.specs.declared.record.Record.{Record}
 use Rattle.ep_history.proofs.Steps.{open-kept}
 use Rattle.ep_pad_file.specs.Standing.{size, MayHold, StandsFor}
@@ -25,9 +26,11 @@ use Rattle.ep_pad_state.specs.declared.change.Ready.{Ready}
 use Rattle.ep_pad.specs.Held.{Held}
 use Rattle.ep_pad.specs.Keeping.{AllStand, IsStoppedAt}
 use Rattle.ep_pad.specs.Keeping.IsStoppedAt.{IsUnmade, IsMade}
-use Rattle.ep_pad.specs.Opening.{stopped, IsWoken, MayFind}
+use Rattle.ep_pad.specs.Opening.{stopped, IsFullThen, IsWoken, MayFind}
 use Rattle.ep_pad.specs.Standing.{replied, Stands}
-use Rattle.ep_pad.specs.Stopping.{StopsIn}
+use Rattle.ep_pad.specs.Stopping.{HasNoRoom, StaysStopped, StopsIn}
+use Rattle.ep_pad.specs.Stopping.HasNoRoom.{FullBehind}
+use Rattle.ep_pad.specs.Stopping.StaysStopped.{Behind}
 use Rattle.ep_pad.proofs.Crashing.{none-more}
 use Rattle.ep_pad.proofs.Stepping.{after-limits, woken-kept}
 use Rattle.ep_pad.proofs.Turns.{turn-of, turn-recorded}
@@ -53,6 +56,27 @@ stops-still st e reply kept (inr is) = record { lacks = λ _. refl; does = λ ot
 pub stops-recorded : (st next : MachineState) (e : Entry) (reply : Reply) (kept : Bool) → (turn size st e).state ≡ next → (reply ≡ Err NoMemory → ⊥)
     → StopsIn st e reply kept (stopped (cond kept next st))
 stops-recorded st next e reply kept same other = record { lacks = λ is. absurd (other is); does = λ _. ap (λ (t : MachineState). stopped (cond kept t st)) (sym same) }
+
+-- what was answered
+pub replied-lacks : {A : Type 0} (f : A → Answer) (r : Result A PadBad) → replied f r ≡ Err NoMemory → r ≡ Err NoMemory
+replied-lacks f (Ok x) is = absurd (cc)
+replied-lacks f (Err bad) is = let e : bad ≡ NoMemory = cc in ap (λ (b : PadBad). Err b) e
+
+pub never-full : (said : PadBad) (n : ℕ) → said ≡ NoMemory → said ≡ JournalFull n → ⊥
+never-full said n lacks full = let e : NoMemory ≡ JournalFull n = sym lacks ∙ full in absurd (cc)
+
+-- ---- the journal has no room for the opening behind
+
+pub full-behind : (st mid at next : MachineState) (e : Entry) (reply : Reply) (kept : MachineState → Bool) (bad : PadBad) → IsWoken st mid → StopsIn mid e reply (kept mid) at
+    → (reply ≡ Err NoMemory → ⊥) → IsFullThen at bad next → HasNoRoom st e kept bad next
+full-behind st mid at next e reply kept bad w s other full = FullBehind mid w (subst (λ (x : MachineState). IsFullThen x bad next) (s.does other) full)
+
+-- memory was wanting for the entry: it is as if it had been wanting for the opening too
+pub lacks-behind : (st mid at next : MachineState) (e : Entry) (reply : Reply) (kept : Bool) (bad : PadBad) → IsWoken st mid → mid.is_open ≡ true → StopsIn mid e reply kept at
+    → reply ≡ Err NoMemory → IsFullThen at bad next → StaysStopped st e NoMemory next
+lacks-behind st mid at next e reply kept bad w on s is full =
+    Behind mid mid (Err NoMemory) w (subst (λ (b : Bool). IsStepAs b size mid e (Err NoMemory) mid) (sym on) (Lacks refl (refl, omega arith)))
+    (refl, λ f. LacksOpening refl (subst (λ (x : MachineState). IsThen x next) (s.lacks is) full.1))
 
 -- ---- what may be found then
 

@@ -9,6 +9,7 @@ use Rattle.ep_history.specs.Machine.{MachineState, IsFirst, IsKeptState, IsClose
 use Rattle.ep_history.specs.Machine.IsClosedStep.{Finds, LacksOpening, FailsOpening}
 use Rattle.ep_history.specs.Machine.IsFoundStep.{IsFull as FullOpening, FailsOpened}
 use Rattle.ep_history.specs.declared.pad_bad.PadBad.{PadBad}
+use Rattle.ep_history.specs.declared.pad_bad.PadBad.TheVariants.{JournalFull, NoMemory, Store}
 use Rattle.ep_history.specs.declared.record.Record.{Record}
 use Rattle.ep_history.proofs.Recorded.{next-more, told-more}
 use Rattle.ep_history.proofs.Steps.{settled-kept, told-limits}
@@ -17,7 +18,7 @@ use Rattle.ep_pad_state.specs.Held.{IsPad}
 use Rattle.ep_pad.specs.Crashes.{MayRemain}
 use Rattle.ep_pad.specs.Held.{Held}
 use Rattle.ep_pad.specs.Standing.{opening, Stands}
-use Rattle.ep_pad.specs.Opening.{appended, IsReadFault, OpensWith, Begins, BeginsNot, IsCause, IsWoken, Sleeps, stopped}
+use Rattle.ep_pad.specs.Opening.{appended, IsReadFault, OpensWith, Begins, BeginsNot, IsCause, IsFullThen, IsWoken, Sleeps, stopped}
 use Rattle.ep_pad.specs.Opening.IsReadFault.{Wants, Faults}
 use Rattle.ep_pad.specs.Opening.IsCause.{IsUnread, IsFull, FailsAt}
 use Rattle.ep_pad.specs.Opening.IsWoken.{Opened}
@@ -162,6 +163,23 @@ module _ {D : Type 0} (told_by : D → Option Contents) (failures : D → ℕ) w
             (subst (λ q. IsOldOrMore at.records (q ∷ []) image) (opening-same at limits legal same) made)) h,
       )
 
+  -- its records were read, and the journal has no room for its opening's
+  pub found-full : (limits : Limits) (at : MachineState) (then new : D) (n : ℕ) (bad : PadBad) → bad ≡ JournalFull n → IsTold at → at.pad.limits ≡ limits → at.is_open ≡ false → at.pending ≡ []
+      → at.faults ≤ failures then → (b : BeginsNot told_by failures limits at.records then bad new)
+      → IsFullThen at bad (with_faults at (failures new)) × IsShut limits (failures new) (with_faults at (failures new)) × MayHold (told_by new) at.records at.pending
+  found-full limits at then new n bad is legal same shut none few_then b = go b.cause
+    where
+      few : at.faults ≤ failures new
+      few = let x = few_then in let y = b.later in omega (arith, x, y)
+
+      go : IsCause told_by failures limits at.records then bad new
+          → IsFullThen at bad (with_faults at (failures new)) × IsShut limits (failures new) (with_faults at (failures new)) × MayHold (told_by new) at.records at.pending
+      go (IsUnread (Wants lacks) file) = let e : NoMemory ≡ JournalFull n = sym lacks ∙ is in absurd (cc)
+      go (IsUnread (Faults count store rose) file) = let e : Store count ≡ JournalFull n = sym store ∙ is in absurd (cc)
+      go (FailsAt count store rose fits left) = let e : Store count ≡ JournalFull n = sym store ∙ is in absurd (cc)
+      go (IsFull full rests) =
+          ((opens-at at limits (Some bad) legal same full, (refl, few)), record { shut = shut; limits = same; faults = refl }, subst (MayHold (told_by new) at.records) (sym none) rests)
+
   -- the opening went through
   pub woken : (before : ℕ) (st : MachineState) (then : D) (new : Held D) (kept : Bool) → IsTold (settled kept st) → IsShut new.limits before st → before ≤ failures then
       → Begins told_by failures new.limits (settled kept st).records then new.disk new.pad → new.is_open ≡ true
@@ -212,6 +230,16 @@ module _ {D : Type 0} (told_by : D → Option Contents) (failures : D → ℕ) w
     },
     s.4,
   )
+
+  -- a closed machine is in a closed state
+  pub stands-closed : (next : MachineState) (m : Held D) → m.is_open ≡ false → IsShut m.limits (failures m.disk) next → MayHold (told_by m.disk) next.records next.pending → Stands told_by failures m next
+  stands-closed next m off s may = record {
+    is_open = s.shut ∙ sym off;
+    limits = s.limits;
+    faults = s.faults;
+    open_has = λ on. absurd (true≢false (sym on ∙ off));
+    closed_has = λ _. may;
+  }
 
   -- a machine that stopped
   pub stops : (st : MachineState) (m : Held D) → Stands told_by failures m st → (m.is_open ≡ true → Holds (told_by m.disk) st.records → MayHold (told_by m.disk) st.records [])

@@ -66,6 +66,13 @@ pub record IsBadAt (limits : Limits) (file : List ℕ) (k : ℕ) : Type 0 where
 abbrev pub IsLegalFile : Limits → List ℕ → Type 0
 IsLegalFile limits file = (rs : List Record) × StandsFor rs file × AreLegal limits rs
 
+-- a file's records are a legal list, behind which the opening's record has no room: by itself or with them it has so many bytes
+pub record IsFullAt (limits : Limits) (file : List ℕ) (bytes : ℕ) : Type 0 where
+  pub records : List Record
+  pub stands : StandsFor records file
+  pub legal : AreLegal limits records
+  pub full : OpensWith limits records (Some (JournalFull bytes))
+
 -- ---- a file that holds these records is opened
 
 module _ {D : Type 0} (told_by : D → Option Contents) (failures : D → ℕ) (limits : Limits) (rs : List Record) where
@@ -105,6 +112,10 @@ pub data IsWoken (st mid : MachineState) : Type 0 where
 -- a closed one has not, and any entry is refused for that
 abbrev pub Sleeps : MachineState → PadBad → MachineState → Type 0
 Sleeps st bad new = (st.is_open ≡ false) × ((e : Entry) → IsClosedStep size st e (Err bad) new)
+
+-- a closed one found its records, and its journal has no room for the record of its opening: it stays as it is
+abbrev pub IsFullThen : MachineState → PadBad → MachineState → Type 0
+IsFullThen st bad new = (journal_fault size st (open_record st) ≡ Some bad) × IsThen st new
 
 -- a machine that stopped
 abbrev pub stopped : MachineState → MachineState

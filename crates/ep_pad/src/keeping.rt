@@ -10,6 +10,7 @@ ghost use Rattle.ep_history.specs.declared.pad_bad.PadBad.TheVariants as lacks;
 ghost use Rattle.ep_pad.specs.Crashes.{Comes, IsUncalled};
 ghost use Rattle.ep_pad.specs.Keeping.{IsKept, IsNotKept, IsStoppedAt};
 
+use crate::lengths::longest_file_with;
 use crate::machine::PadMachine;
 use ep_history::PadBad;
 use ep_outside::Disk;
@@ -34,7 +35,8 @@ impl<D: Disk> PadMachine<D> {
         ensures later { D.failures self.old.disk ≤ D.failures self.new.disk }
         ensures limits { self.new.limits ≡ self.old.limits }
     {
-        let prepared = self.file.prepare(self.alloc, &ready.record)?;
+        let longest = longest_file_with(self.limits, &ready.record);
+        let prepared = self.file.prepare(self.alloc, &ready.record, longest)?;
         if let Err(bad) = self.file.append(prepared) {
             self.is_open = false;
             return Err(bad);

@@ -9,6 +9,7 @@
 mod calls;
 mod entries;
 mod keeping;
+mod lengths;
 mod machine;
 mod opening;
 mod pad_port;

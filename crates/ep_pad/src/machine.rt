@@ -35,13 +35,13 @@ impl<D: Disk + Drop> Drop for PadMachine<D> {
 impl<D: Disk> Model for PadMachine<D> {
     ghost use Rattle.std.specs.Prelude.{◌≡◌, true};
     ghost use Rattle.ep_pad_file.specs.PadFile.{disk_of, limit_of, IsReady};
-    ghost use Rattle.ep_pad.specs.Held.{Held};
+    ghost use Rattle.ep_pad.specs.Held.{Held, longest_of};
 
     ghost Value = { Held D };
 
     ghost view = { λ m. record { disk = disk_of m.file; limits = m.limits; pad = m.pad; is_open = m.is_open } };
 
-    ghost invariant = { λ m. (m.is_open ≡ true → IsReady D.told m.file) × (limit_of m.file ≡ m.limits.journal) };
+    ghost invariant = { λ m. (m.is_open ≡ true → IsReady D.told m.file) × (limit_of m.file ≡ longest_of m.limits) };
 }
 
 impl<D: Disk> PadMachine<D> {

@@ -11,11 +11,13 @@ ghost use Rattle.ep_outside.specs.Moments.{LeavesOnly};
 ghost use Rattle.ep_pad_file.specs.PadFile.{disk_of, limit_of, IsReady as IsFileReady};
 ghost use Rattle.ep_pad_file.specs.Standing.{Holds, IsOldOrMore, MayHold, StandsFor};
 ghost use Rattle.ep_pad_state.specs.Held.{IsPad};
+ghost use Rattle.ep_pad.specs.Held.{longest_of};
 ghost use Rattle.ep_pad.specs.Histories.{HasMade};
 ghost use Rattle.ep_pad.specs.Standing.{opening, Stands};
 ghost use Rattle.ep_pad.specs.Crashes.{Comes, MayRemain};
-ghost use Rattle.ep_pad.specs.Opening.{appended, found, stopped, BeginRefused, Begins, BeginsNot, IsBadAt, IsLegalFile, IsReadFault, IsRefused, IsWoken, MayFind, Sleeps};
+ghost use Rattle.ep_pad.specs.Opening.{appended, found, stopped, BeginRefused, Begins, BeginsNot, IsBadAt, IsFullAt, IsFullThen, IsLegalFile, IsReadFault, IsRefused, IsWoken, MayFind, Sleeps};
 
+use crate::lengths::{longest_file, longest_file_with};
 use crate::machine::PadMachine;
 use ep_history::{PadBad, Record};
 use ep_outside::{Crash, Disk, Image, Limits, Refused};
@@ -32,6 +34,7 @@ fn reread<D: Disk>(alloc: Global, file: &mut PadFile<D>, limits: Limits) -> Resu
     ensures found { (c : Contents) → D.told (disk_of file.old) ≡ Some c → IfOk result (λ _. IsLegalFile limits c.seen) }
     ensures bad { (c : Contents) (k : ℕ) → D.told (disk_of file.old) ≡ Some c → IfErr result (λ why. why ≡ PadBad.BadRecord k → IsBadAt limits c.seen k) }
     ensures refused { IfErr result (BeginRefused (D.failures (disk_of file.old)) (D.failures (disk_of file.new))) }
+    ensures unfilled { (n : ℕ) → IfErr result (λ why. why ≡ PadBad.JournalFull n → ⊥) }
     ensures settled { (rs : List Record) → Holds (D.told (disk_of file.old)) rs → MayHold (D.told (disk_of file.old)) rs [] }
     ensures told { D.told (disk_of file.new) ≡ D.told (disk_of file.old) }
     ensures images { LeavesOnly D.moment D.since (disk_of file.old) (disk_of file.new) (IsImage (D.told (disk_of file.old))) }
@@ -53,7 +56,7 @@ fn reread<D: Disk>(alloc: Global, file: &mut PadFile<D>, limits: Limits) -> Resu
 /// Reads the records of a file back, and keeps the opening's own behind them: the pad then, in its next opening.
 fn begin<D: Disk>(alloc: Global, file: &mut PadFile<D>, limits: Limits) -> Result<Pad, PadBad>
     requires file { IsFileReady D.told file.old }
-    requires limit { limit_of file.old ≡ limits.journal }
+    requires limit { limit_of file.old ≡ longest_of limits }
     ensures begins { (rs : List Record) → Holds (D.told (disk_of file.old)) rs → AreLegal limits rs → MatchResult result
         (λ pad. Begins D.told D.failures limits rs (disk_of file.old) (disk_of file.new) pad
         × LeavesOnly D.moment D.since (disk_of file.old) (disk_of file.new) (IsOldOrMore rs (opening (told limits rs) ∷ [])))
@@ -63,6 +66,8 @@ fn begin<D: Disk>(alloc: Global, file: &mut PadFile<D>, limits: Limits) -> Resul
     ensures found { (c : Contents) → D.told (disk_of file.old) ≡ Some c → IfOk result (λ _. IsLegalFile limits c.seen) }
     ensures bad { (c : Contents) (k : ℕ) → D.told (disk_of file.old) ≡ Some c → IfErr result (λ why. why ≡ PadBad.BadRecord k → IsBadAt limits c.seen k) }
     ensures alone { (k : ℕ) → IfErr result (λ why. why ≡ PadBad.BadRecord k → D.told (disk_of file.new) ≡ D.told (disk_of file.old)) }
+    ensures full { (c : Contents) (n : ℕ) → D.told (disk_of file.old) ≡ Some c
+        → IfErr result (λ why. why ≡ PadBad.JournalFull n → IsFullAt limits c.seen n × (D.told (disk_of file.new) ≡ D.told (disk_of file.old))) }
     ensures told { (c : Contents) → D.told (disk_of file.new) ≡ Some c → OnOk result ((d : Contents) × (D.told (disk_of file.old) ≡ Some d)) }
     ensures ready { OnOk result (IsFileReady D.told file.new) }
     ensures limit { limit_of file.new ≡ limit_of file.old }
@@ -74,7 +79,8 @@ fn begin<D: Disk>(alloc: Global, file: &mut PadFile<D>, limits: Limits) -> Resul
         return Err(PadBad::NoMemory);
     };
     let record = Record::Open { epoch };
-    let prepared = file.prepare(alloc, &record)?;
+    let longest = longest_file_with(limits, &record);
+    let prepared = file.prepare(alloc, &record, longest)?;
     pad.next(alloc, record)?;
     file.append(prepared)?;
     Ok(pad)
@@ -128,6 +134,9 @@ impl<D: Disk> PadMachine<D> {
         ensures untouched { (c : Contents) → D.told disk ≡ Some c → IfErr result (λ refused. refused.why ≡ PadBad.Foreign → D.told refused.back ≡ Some (settled c.seen)) }
         ensures alone { (c : Contents) (k : ℕ) → D.told disk ≡ Some c
             → IfErr result (λ refused. refused.why ≡ PadBad.BadRecord k → D.told refused.back ≡ Some (settled (mended c.seen))) }
+        // Nor where its records are such a list and the opening's has no room behind them, which alone is refused as full.
+        ensures full { (c : Contents) (n : ℕ) → D.told disk ≡ Some c → IfErr result (λ refused. refused.why ≡ PadBad.JournalFull n
+            → IsFullAt limits (mended c.seen) n × (D.told refused.back ≡ Some (settled (mended c.seen)))) }
         // A disk that was left while a record was being appended, or none.
         ensures opens { (rs pending : List Record) → MayHold (D.told disk) rs pending → AreLegal limits (rs ++ pending)
             → IfOk result (λ m. (n : ℕ) × (D.failures disk ≤ n) × ((mid : MachineState) × IsWoken (found limits rs pending n) mid × Stands D.told D.failures m mid)) }
@@ -139,7 +148,7 @@ impl<D: Disk> PadMachine<D> {
         ensures marks { MatchResult result (λ m. KeepsMarks D.is_steady D.stops_alone D.left disk m.disk) (λ refused. KeepsMarks D.is_steady D.stops_alone D.left disk refused.back) }
         ensures refused { IfErr result (λ r. IsRefused D.told D.failures limits disk r.back r.why) }
     {
-        let mut file = match PadFile::open(alloc, disk, limits.journal) {
+        let mut file = match PadFile::open(alloc, disk, longest_file(limits)) {
             Ok(file) => file,
             Err(refused) => return Err(refused),
         };
@@ -204,6 +213,10 @@ impl<D: Crash> PadMachine<D> {
         ensures finds { (c : Contents) → D.told self.old.disk ≡ Some c → (image : List ℕ) × IsAsked c (image_at (D.left self.old.disk) (D.image self.old.disk)) image
             × ((at : MachineState) → MayFind self.old.limits (D.failures self.old.disk) image at
             → OnOk result ((mid : MachineState) × IsWoken at mid × Stands D.told D.failures self.new mid)) }
+        // Also where the journal has no room for its next opening.
+        ensures full { (c : Contents) → D.told self.old.disk ≡ Some c → (image : List ℕ) × IsAsked c (image_at (D.left self.old.disk) (D.image self.old.disk)) image
+            × ((at : MachineState) (n : ℕ) → MayFind self.old.limits (D.failures self.old.disk) image at
+            → IfErr result (λ bad. bad ≡ PadBad.JournalFull n → (next : MachineState) × IsFullThen at bad next × Stands D.told D.failures self.new next)) }
         ensures works { D.left self.new.disk ≡ None }
         ensures steady { D.is_steady self.old.disk ≡ true → D.is_steady self.new.disk ≡ true }
         ensures alone { D.stops_alone self.new.disk ≡ D.stops_alone self.old.disk }

@@ -14,7 +14,7 @@ ghost use Rattle.ep_pad.specs.Crashes.{Comes, IsUncalled};
 ghost use Rattle.ep_pad.specs.Held.{Held};
 ghost use Rattle.ep_pad.specs.Opening.{stopped, IsWoken, MayFind};
 ghost use Rattle.ep_pad.specs.Standing.{replied, Stands};
-ghost use Rattle.ep_pad.specs.Stopping.{StaysStopped, StopsIn};
+ghost use Rattle.ep_pad.specs.Stopping.{HasNoRoom, IsToldBehind, StaysStopped, StopsIn};
 
 use crate::machine::PadMachine;
 use ep_cs::Change;
@@ -71,6 +71,11 @@ impl<D: Crash> PadMachine<D> {
             × StopsIn mid (Accept session base change now) (replied (λ x. CommitAnswer (told_by x)) taken) (is_kept (gate_behind mid.records) calls asked) at
             × IsWoken at last × Stands D.told D.failures self.new last)
             (λ bad. (next : MachineState) × StaysStopped st (Accept session base change now) bad next × Stands D.told D.failures self.new next) }
+        // So it is where the journal has no room for an opening.
+        ensures full { (st : MachineState) (n : ℕ) → IsKeptState st → Stands D.told D.failures self.old st → D.stops_alone self.old.disk ≡ true
+            → IfErr result (λ bad. bad ≡ PadBad.JournalFull n → (next : MachineState)
+            × HasNoRoom st (Accept session base change now) (λ mid. is_kept (gate_behind mid.records) calls asked) bad next
+            × Stands D.told D.failures self.new next) }
         ensures works { OnOk result (D.left self.new.disk ≡ None) }
         // Over any disk it is one step of the machine, and then a crash.
         ensures steps { (st : MachineState) → IsKeptState st → Stands D.told D.failures self.old st → IfOk result
@@ -83,7 +88,19 @@ impl<D: Crash> PadMachine<D> {
         self.stop_after(calls, Image::Old);
         let taken = self.take(session, base, change, now);
         self.stop_after(0, asked);
-        self.restart()?;
-        Ok(taken)
+        match self.restart() {
+            Ok(()) => Ok(taken),
+            Err(bad) => Err(told_behind(&taken, bad)),
+        }
+    }
+}
+
+/// What is told of an opening that was refused behind a take.
+fn told_behind(taken: &Result<Committed, PadBad>, bad: PadBad) -> PadBad
+    ensures { IsToldBehind taken.now bad result }
+{
+    match (taken, bad) {
+        (Err(PadBad::NoMemory), PadBad::JournalFull(_)) => PadBad::NoMemory,
+        _ => bad,
     }
 }

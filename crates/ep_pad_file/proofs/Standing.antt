@@ -13,7 +13,7 @@ use Rattle.ep_record.proofs.Again.{again}
 use Rattle.ep_history.specs.declared.record.Record.TheVariants.{Open}
 use Rattle.ep_history.specs.Lists.{at, or_else}
 use Rattle.ep_history.specs.Refusals.{first_fault, fault_if}
-use Rattle.ep_history.specs.Machine.{MachineState, most_bytes, file_bytes, journal_fault}
+use Rattle.ep_history.specs.Machine.{MachineState, most_bytes, file_bytes, journal_fault, longest_with}
 use Rattle.ep_history.specs.declared.pad_bad.PadBad.TheVariants.{JournalFull}
 use Rattle.ep_history.specs.declared.record.Record.{Record}
 use Rattle.ep_pad_file.specs.Standing.{size, record_in, StandsFor, IsOldOrMore, IsByGate}
@@ -79,8 +79,8 @@ length_is rs file s =
     let end : journal.closed_gate file ≡ end_of 8 (map bytes_of rs) = ap (λ (l : List (List ℕ)). end_of 8 l) (records_are rs file s) in
     omega (arith, end, end_is 8 rs)
 
-pub same_fault : (st : MachineState) (r : Record) (length limit : ℕ) → length ≡ file_bytes size st.records → st.pad.limits.journal ≡ limit → file_fault length limit r ≡ journal_fault size st r
-same_fault st r length limit long same =
+pub same_fault : (st : MachineState) (r : Record) (length most : ℕ) → length ≡ file_bytes size st.records → longest_with st.pad.limits r ≡ most → file_fault length most r ≡ journal_fault size st r
+same_fault st r length most long same =
     let with : length + (size r + 5) ≡ file_bytes size (st.records ++ r ∷ []) = omega (arith, long, sum_by_push (λ q. size q + 5) st.records r) in
     let back = sym same in
     (λ i. first_fault (fault_if (nat_lt most_bytes (size r)) (JournalFull (size r)) ∷ fault_if (nat_lt (back i) (with i)) (JournalFull (with i)) ∷ []))

@@ -1,5 +1,5 @@
 -- The file of a pad over a disk.
-use Rattle.std.specs.Prelude.{◌≡◌, ℕ, ◌+◌, ◌≤◌, List, ◌∷◌, [], true, nat_lt, Option, Some, Result, OnOk, IsErrOf}
+use Rattle.std.specs.Prelude.{◌≡◌, ℕ, ◌+◌, ◌-◌, ◌^◌, ◌≤◌, min, List, ◌∷◌, [], true, nat_lt, Option, Some, Result, OnOk, IsErrOf}
 use Rattle.ep_outside.specs.Disk.{Contents, Room, settled}
 use Rattle.ep_journal.specs.File.{mended, is_foreign}
 use Rattle.ep_journal.specs.Journal as journal
@@ -31,14 +31,18 @@ length_of f = journal.length_of f.journal
 abbrev pub length_with : ℕ → Record → ℕ
 length_with length r = length + (size r + 5)
 
--- why a file of that length and that limit takes no record of so many bytes: it is too long by itself, or with the file
+-- why a file of that length that may have so many bytes takes no record of these bytes: it is too long by itself, or with the file
 abbrev pub size_fault : ℕ → ℕ → ℕ → Option PadBad
-size_fault length limit bytes =
-    first_fault (fault_if (nat_lt most_bytes bytes) (JournalFull bytes) ∷ fault_if (nat_lt limit (length + (bytes + 5))) (JournalFull (length + (bytes + 5))) ∷ [])
+size_fault length most bytes =
+    first_fault (fault_if (nat_lt most_bytes bytes) (JournalFull bytes) ∷ fault_if (nat_lt most (length + (bytes + 5))) (JournalFull (length + (bytes + 5))) ∷ [])
 
 -- why it takes no such record
 abbrev pub file_fault : ℕ → ℕ → Record → Option PadBad
-file_fault length limit r = size_fault length limit (size r)
+file_fault length most r = size_fault length most (size r)
+
+-- so many bytes as a number of 64 bits says them: no file has more than the greatest
+abbrev pub saturated : ℕ → ℕ
+saturated bytes = min bytes (2 ^ 64 - 1)
 
 -- open: the disk holds a file at rest and synced, and the places of its records are known
 abbrev pub IsReady : {D : Type 0} → (D → Option Contents) → PadFile D → Type 0

@@ -9,10 +9,10 @@ ghost use Rattle.ep_journal.specs.Journal.{IsImageOr};
 ghost use Rattle.ep_journal.specs.Reads.{ReadsUpTo};
 ghost use Rattle.ep_record.specs.Bytes.{IsRecord, IsEncoding, bytes_of};
 ghost use Rattle.ep_history.specs.Lists.{at};
-ghost use Rattle.ep_history.specs.Machine.{MachineState, journal_fault};
+ghost use Rattle.ep_history.specs.Machine.{MachineState, journal_fault, longest_with};
 ghost use Rattle.ep_history.specs.declared.record.Record.{Record};
 ghost use Rattle.ep_pad_file.specs.Standing.{size, StandsFor, Holds, HoldsSynced, MayHold, IsLeft, IsOldOrMore, IsByGate, IsHalfway, IsRecordAt};
-ghost use Rattle.ep_pad_file.specs.PadFile.{disk_of, limit_of, count_of, length_of, length_with, file_fault, size_fault, IsReady, IsClosed, HasRoomFor, IsSameOver, Reopens};
+ghost use Rattle.ep_pad_file.specs.PadFile.{disk_of, limit_of, count_of, length_of, length_with, file_fault, saturated, size_fault, IsReady, IsClosed, HasRoomFor, IsSameOver, Reopens};
 ghost use Rattle.ep_pad_file.specs.Refusals.{OpenRefused, AppendRefused, ReadRefused};
 ghost use Rattle.ep_pad_file.specs.Stopping.{IsStopped};
 
@@ -43,7 +43,7 @@ impl<D: Disk + Drop> Drop for PadFile<D> {
 }
 
 impl<D: Disk> PadFile<D> {
-    /// Opens the file of a disk, which may have so many bytes. A refusal hands the disk back.
+    /// Opens the file of a disk, which may have so many bytes at most. A refusal hands the disk back.
     pub fn open(alloc: Global, disk: D, limit: u64) -> Result<PadFile<D>, Refused<D, PadBad>>
         ensures ready { IfOk result (IsReady D.told) }
         ensures records { (rs : List Record) → Holds (D.told disk) rs → IfOk result (λ file. Holds (D.told (disk_of file)) rs) }
@@ -158,21 +158,27 @@ impl<D: Disk> PadFile<D> {
         }
     }
 
-    /// Makes all ready to append a record: its bytes, and room for it.
+    /// Makes all ready to append a record, with which the file may have so many bytes: its bytes, and room for it.
     ///
     /// A record that has no bytes is answered as for want of memory, and so is one with which the file would have 2^64 bytes
     /// or more.
     #[inline(always)]
-    pub fn prepare(&mut self, alloc: Global, entry: &Record) -> Result<Prepared, PadBad>
-        requires { IsReady D.told self.old }
+    pub fn prepare(
+        &mut self,
+        alloc: Global,
+        entry: &Record,
+        longest: u64,
+    ) -> Result<Prepared, PadBad>
+        requires ready { IsReady D.told self.old }
+        requires below { longest ≤ limit_of self.old }
         ensures prepared { IfOk result (λ prepared. prepared ≡ entry.now) }
         ensures bytes { OnOk result (IsRecord entry.now) }
         ensures room { IfOk result (HasRoomFor D.room self.new) }
-        ensures fits { OnOk result (file_fault (length_of self.old) (limit_of self.old) entry.now ≡ None) }
-        ensures refused { IfErr result (λ why. (why ≡ PadBad.NoMemory) ⊎ (file_fault (length_of self.old) (limit_of self.old) entry.now ≡ Some why)) }
+        ensures fits { (most : ℕ) → longest ≡ saturated most → OnOk result (file_fault (length_of self.old) most entry.now ≡ None) }
+        ensures refused { (most : ℕ) → longest ≡ saturated most → IfErr result (λ why. (why ≡ PadBad.NoMemory) ⊎ (file_fault (length_of self.old) most entry.now ≡ Some why)) }
         // It is the journal's refusal of a machine whose records the file holds.
-        ensures machine { (st : MachineState) → Holds (D.told (disk_of self.old)) st.records → st.pad.limits.journal ≡ limit_of self.old
-            → file_fault (length_of self.old) (limit_of self.old) entry.now ≡ journal_fault size st entry.now }
+        ensures machine { (st : MachineState) (most : ℕ) → Holds (D.told (disk_of self.old)) st.records → longest_with st.pad.limits entry.now ≡ most
+            → file_fault (length_of self.old) most entry.now ≡ journal_fault size st entry.now }
         ensures ready { IsReady D.told self.new }
         ensures same { IsSameOver self.old self.new }
         ensures told { D.told (disk_of self.new) ≡ D.told (disk_of self.old) }
@@ -182,18 +188,18 @@ impl<D: Disk> PadFile<D> {
         ensures marks { KeepsMarks D.is_steady D.stops_alone D.left (disk_of self.old) (disk_of self.new) }
     {
         let bytes = encode_behind(alloc, &[0; FRONT], entry, self.spare.take())?;
-        self.takes((bytes.len() - FRONT) as u64)?;
+        self.takes((bytes.len() - FRONT) as u64, longest)?;
         let framed = frame_behind(bytes)?;
         self.journal.reserve(&framed)?;
         Ok(Prepared::new(framed, entry))
     }
 
-    /// Whether the file takes a record of so many bytes.
-    fn takes(&self, size: u64) -> Result<(), PadBad>
-        ensures fault { MatchResult result
-            (λ _. size_fault (length_of self.now) (limit_of self.now) size ≡ None)
-            (λ why. (why ≡ PadBad.NoMemory) ⊎ (size_fault (length_of self.now) (limit_of self.now) size ≡ Some why)) }
-        ensures below { OnOk result ((size ≤ 67108864) × (length_of self.now + (size + 5) ≤ limit_of self.now)) }
+    /// Whether the file takes a record of so many bytes, with which it may have so many.
+    fn takes(&self, size: u64, longest: u64) -> Result<(), PadBad>
+        ensures fault { (most : ℕ) → longest ≡ saturated most → MatchResult result
+            (λ _. size_fault (length_of self.now) most size ≡ None)
+            (λ why. (why ≡ PadBad.NoMemory) ⊎ (size_fault (length_of self.now) most size ≡ Some why)) }
+        ensures below { OnOk result ((size ≤ 67108864) × (length_of self.now + (size + 5) ≤ longest)) }
     {
         if RECORD_MAX < size {
             return Err(PadBad::JournalFull(size));
@@ -201,7 +207,7 @@ impl<D: Disk> PadFile<D> {
         match self.journal.gate().checked_add(size + 6) {
             None => Err(PadBad::NoMemory),
             Some(length) => {
-                if self.journal.limit() < length {
+                if longest < length {
                     Err(PadBad::JournalFull(length))
                 } else {
                     Ok(())

@@ -1,7 +1,7 @@
 //! Records that are appended to a file.
 
-ghost use Rattle.std.specs.Prelude.{IfOk};
-ghost use Rattle.ep_pad_file.specs.PadFile.{IsReady};
+ghost use Rattle.std.specs.Prelude.{◌≡◌, IfOk};
+ghost use Rattle.ep_pad_file.specs.PadFile.{limit_of, IsReady};
 
 use crate::images::image;
 use crate::opened::{LIMITS, left};
@@ -14,7 +14,8 @@ use ep_record::{Record, decode};
 use std::alloc::Global;
 
 fn file(alloc: Global, digits: &str, limit: u64) -> Result<PadFile<MemDisk>>
-    ensures { IfOk result (IsReady ⟦<MemDisk as Disk>⟧.told) }
+    ensures ready { IfOk result (IsReady ⟦<MemDisk as Disk>⟧.told) }
+    ensures limit { IfOk result (λ file. limit_of file ≡ limit) }
 {
     let disk = MemDisk::new(alloc, hex::decode(alloc, digits)?, Vec::new(alloc))?;
     match PadFile::open(alloc, disk, limit) {
@@ -38,7 +39,7 @@ pub fn full(alloc: Global, words: &str) -> Result<String> {
     let limit = words.next().context("N")?.parse::<u64>()?;
     let mut file = file(alloc, words.next().context("FILE")?, limit)?;
     let record = record(alloc, words.next().context("RECORD")?)?;
-    match file.prepare(alloc, &record) {
+    match file.prepare(alloc, &record, limit) {
         Ok(_) => Ok(String::from_str(alloc, "ok")?),
         Err(why) => Ok(format!(in alloc; "{why:?}")?),
     }
@@ -55,7 +56,7 @@ pub fn appended(alloc: Global, words: &str) -> Result<String> {
         words.next().context("IMAGE")?,
         words.next().context("LENGTH")?,
     )?;
-    let prepared = file.prepare(alloc, &record)?;
+    let prepared = file.prepare(alloc, &record, LIMITS.journal)?;
     file.stop_after(calls, asked);
     let _answer = file.append(prepared);
     let mut disk = file.into_disk();

@@ -5,7 +5,7 @@ use Rattle.ep_outside.specs.Disk.{Contents}
 use Rattle.ep_history.specs.Pad.{PadState}
 use Rattle.ep_history.specs.Entries.{Entry, Answer, Outcome, Reply, outcome, is_recordable}
 use Rattle.ep_history.specs.Entries.Outcome.{Refuses, Answers, Records}
-use Rattle.ep_history.specs.Machine.{MachineState, Turn, IsClosedStep, IsFoundStep, IsOpenStep, IsStep, IsStepAs, IsThen, IsKeptState, file_bytes, journal_fault, keeping, most_bytes, open_record, settled, turn, turn_of}
+use Rattle.ep_history.specs.Machine.{MachineState, Turn, IsClosedStep, IsFoundStep, IsOpenStep, IsStep, IsStepAs, IsThen, IsKeptState, file_bytes, journal_fault, keeping, longest_with, most_bytes, open_record, settled, turn, turn_of}
 use Rattle.ep_history.specs.Machine.IsFoundStep.{Opens, IsFull, FailsOpened}
 use Rattle.ep_history.specs.Machine.IsClosedStep.{Finds, LacksOpening, FailsOpening}
 use Rattle.ep_history.specs.Machine.IsOpenStep.{Does, Lacks, Fails}
@@ -25,7 +25,7 @@ use Rattle.ep_world.proofs.Shut.{at-kept, at-stands, at-state, open-full, openin
 
 -- a journal that doesn't take a record says so with a length
 pub journal-full : (st : MachineState) (r : Record) (full : PadBad) → journal_fault size st r ≡ Some full → (bytes : ℕ) × (full ≡ bad.JournalFull bytes)
-journal-full st r full e = go (nat_lt most_bytes (size r)) (nat_lt st.pad.limits.journal (file_bytes size (st.records ++ r ∷ []))) e
+journal-full st r full e = go (nat_lt most_bytes (size r)) (nat_lt (longest_with st.pad.limits r) (file_bytes size (st.records ++ r ∷ []))) e
   where
     go : (a b : Bool) → first_fault (fault_if a (bad.JournalFull (size r)) ∷ fault_if b (bad.JournalFull (file_bytes size (st.records ++ r ∷ []))) ∷ []) ≡ Some full
         → (bytes : ℕ) × (full ≡ bad.JournalFull bytes)

@@ -21,8 +21,12 @@ const LIMITS: Limits = Limits {
 const FIRST: Session = Session { epoch: 1, count: 1 };
 
 fn opened(alloc: Global) -> Result<PadMachine<MemDisk>, PadBad> {
+    opened_within(alloc, LIMITS)
+}
+
+fn opened_within(alloc: Global, limits: Limits) -> Result<PadMachine<MemDisk>, PadBad> {
     let disk = MemDisk::new(alloc, Vec::new(alloc), Vec::new(alloc))?;
-    match PadMachine::open(alloc, disk, LIMITS) {
+    match PadMachine::open(alloc, disk, limits) {
         Ok(pad) => Ok(pad),
         Err(refused) => Err(refused.why),
     }
@@ -133,4 +137,36 @@ fn births_and_a_stop(rt: HostRuntime) -> Result<(), PadBad> {
     pad.stop_after(0, Image::Old);
     assert_eq!(rt; pad.delete(11), Err(PadBad::Store(1)));
     Ok(())
+}
+
+/// A pad's journal takes no more text. Openings have so much room more: it is opened anew, its length is read, and it is
+/// deleted.
+fn full_pad(alloc: Global, openings: u64) -> Result<u32, PadBad> {
+    let limits = Limits {
+        journal: 102,
+        openings,
+        ..LIMITS
+    };
+    let mut pad = opened_within(alloc, limits)?;
+    log_in(alloc, &mut pad, 5)?;
+    set_text(alloc, &mut pad, "ab", 6)?;
+    if set_text(alloc, &mut pad, "cd", 7).is_ok() {
+        return Ok(0);
+    }
+    pad.restart()?;
+    let length = pad.text(None)?.len();
+    pad.delete(8)?;
+    Ok(length)
+}
+
+#[test]
+fn a_full_pad_is_opened_and_deleted(rt: HostRuntime) {
+    let rows = [
+        (28, Ok(3)),
+        (27, Err(PadBad::JournalFull(130))),
+        (0, Err(PadBad::JournalFull(116))),
+    ];
+    for (openings, answer) in rows {
+        assert_eq!(rt; full_pad(rt.alloc(), openings), answer);
+    }
 }

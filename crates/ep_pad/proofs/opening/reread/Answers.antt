@@ -86,3 +86,9 @@ returns-then-not-branch-clause-images g c = images-on g.D.Disk.moment g.D.Disk.s
 
 pub returns-clause-images : goal.returns-clause-images
 returns-clause-images g c = c.loop-i.invariant.8
+
+pub returns-in_err-record-clause-unfilled : goal.returns-in_err-record-clause-unfilled
+returns-in_err-record-clause-unfilled g c n =
+    let p = err_from_is_err_and c.from_residual.result c.from_residual.ensures.1 in
+    let refused = c.in_err-record.ensures.refused in
+    rw (p.1, p.2) (λ full. subst (ReadRefused _ _ _ _ _ _ _) full refused)

@@ -121,3 +121,11 @@ returns-in-Err-begin-clause-untouched g c k is foreign = absurd (subst (BeginRef
 
 pub returns-in-Err-begin-clause-alone : goal.returns-in-Err-begin-clause-alone
 returns-in-Err-begin-clause-alone g c k n is bad = ap g.D.Disk.told c.into_disk.ensures ∙ c.in-Err-begin.ensures.alone n bad ∙ c.in-Ok.ensures.file k is
+
+pub returns-in-Err-clause-full : goal.returns-in-Err-clause-full
+returns-in-Err-clause-full g c k n is full = absurd (subst (file.OpenRefused _ _ _ _) full c.in-Err.ensures.refused)
+
+pub returns-in-Err-begin-clause-full : goal.returns-in-Err-begin-clause-full
+returns-in-Err-begin-clause-full g c k n is full =
+    let f = c.in-Err-begin.ensures.full (settled_at (mended k.seen)) n (c.in-Ok.ensures.file k is) full in
+    (f.0, ap g.D.Disk.told c.into_disk.ensures ∙ f.1 ∙ c.in-Ok.ensures.file k is)

@@ -7,9 +7,10 @@ use Rattle.ep_pad_file.proofs.Telling.{holds_settled}
 use Rattle.ep_pad.specs.Crashes.{MayRemain}
 use Rattle.ep_pad.specs.Opening.{stopped}
 use Rattle.ep_pad.specs.Standing.{Stands}
-use Rattle.ep_pad.proofs.Causes.{open-fault}
+use Rattle.ep_pad.proofs.Causes.{open-fault, open-unfilled}
 use Rattle.ep_pad.proofs.Crashing.{both, leaves-from, left-old-or-more}
-use Rattle.ep_pad.proofs.Waking.{first, was-kept, legal-found, settled-told, stopped-kept, stops, stands-shut, unbegun, unread, woken}
+use Rattle.ep_pad.proofs.Steps.{with_faults}
+use Rattle.ep_pad.proofs.Waking.{first, found-full, was-kept, legal-found, settled-told, stopped-kept, stops, stands-closed, stands-shut, unbegun, unread, woken}
 use Rattle.ep_pad.proofs.machine.PadMachine.restart.Goals as goal
 
 -- ---- the file did not open
@@ -109,3 +110,30 @@ returns-clause-finds g c = rw (sym c.self.view_is) (λ k told.
           let w = woken g.D.Disk.told g.D.Device.failures at.faults at _ _ false (settled-told at false m.kept) (record { shut = m.shut; limits = m.limits; faults = refl }) (omega (arith, few, later)) begun.0 refl in
           (w.0, w.1, w.2),
     ))
+
+-- ---- it has no room for the opening
+
+pub returns-in_err-restart-clause-full : goal.returns-in_err-restart-clause-full
+returns-in_err-restart-clause-full g c =
+    let p = err_from_is_err_and c.from_residual.result c.from_residual.ensures.1 in
+    rw (sym c.self.view_is) (λ k told.
+    let o = c.in_err-restart.ensures.opens k told in
+    (o.0, o.1, λ at n m. rw (p.1, p.2) (λ full. absurd (open-unfilled None _ _ _ n _ c.in_err-restart.ensures.refused full))))
+
+pub returns-in_err-self-inside-clause-full : goal.returns-in_err-self-inside-clause-full
+returns-in_err-self-inside-clause-full g c =
+    let p = err_from_is_err_and c.from_residual-in_err-self-inside.result c.from_residual-in_err-self-inside.ensures.1 in
+    rw (sym c.self.view_is) (λ k told.
+    let o = c.in_ok-restart.ensures.opens k told in (
+      o.0,
+      o.1,
+      λ at n m. rw (p.1, p.2) (λ full.
+          let begun = c.in_err-self-inside.ensures.begins at.records (o.2.records at.records m.stands) (legal-found at false c.self.inside.limits m.kept m.limits) in
+          let few = m.few in
+          let later = c.in_ok-restart.ensures.later in
+          let z = found-full g.D.Disk.told g.D.Device.failures c.self.inside.limits at _ _ n _ full (settled-told at false m.kept) m.limits m.shut m.settled (omega (arith, few, later)) begun.0 in
+          (with_faults at _, z.0, stands-closed g.D.Disk.told g.D.Device.failures (with_faults at _) _ refl z.1 z.2)),
+    ))
+
+pub returns-clause-full : goal.returns-clause-full
+returns-clause-full g c = rw (sym c.self.view_is) (λ k told. let o = c.in_ok-restart.ensures.opens k told in (o.0, o.1, λ at n m. tt))
