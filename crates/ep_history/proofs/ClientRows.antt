@@ -98,7 +98,7 @@ two_revisions = refl
 -- ---- a pad
 
 abbrev limits : Limits
-limits = record { live = 500; logins = 1000000; units = 1000000; journal = 0; pads = 1 }
+limits = record { live = 500; logins = 1000000; units = 1000000; journal = 0; openings = 0; pads = 1 }
 
 abbrev pad : PadState
 pad = with_session (create (record { limits = limits; epoch = 1; sessions = []; births = []; present = false; public = false }) 0 (codes "ab")) (codes "a.A") false

@@ -1,11 +1,12 @@
 -- Finding the first of a name.
-use Rattle.std.proofs.Common.{◌≡◌, ℕ, ◌+◌, ◌<◌, ◌≤◌, true, false, List, [], ◌∷◌, ◌++◌, length, refl, sym, ap, ◌∙◌, arith, get_or, take, drop, suc, append_assoc, append-nil, Some, None}
+use Rattle.std.proofs.Common.{◌≡◌, ℕ, ◌+◌, ◌<◌, ◌≤◌, true, false, List, [], ◌∷◌, ◌++◌, All, length, refl, sym, ap, ◌∙◌, subst, arith, get_or, take, drop, suc, append_assoc, append-nil, Some, None}
 use Rattle.std.specs.Prelude.{bytes_eq}
 use Rattle.std.specs.List.{remove}
 use Rattle.std.proofs.lemmas.List.{drop_more}
 use Rattle.std.proofs.Math.ListN.{drop_of_length-le}
 use Rattle.std.proofs.Math.Seq.{take-suc}
 use Rattle.std.proofs.lemmas.List.{take-append-drop}
+use Rattle.std.proofs.lemmas.List.Elements.{All-append, All-drop, All-get_or, All-take}
 use Rattle.ep_house.specs.declared.named.Kept.{Kept}
 use Rattle.ep_house.specs.declared.named.Named.{Named}
 use Rattle.ep_house.specs.Register.{found_in, without}
@@ -21,6 +22,15 @@ left_at l i x lt p = drop_more l i x lt ∙ ap (λ y. y ∷ drop (i + 1) l) (sym
 
 pub taken_at : {A : Type 0} (l : List A) (i : ℕ) (x : A) → i < length l → x ≡ get_or l i x → take (i + 1) l ≡ take i l ++ x ∷ []
 taken_at l i x lt p = let e : i + 1 ≡ suc i = omega arith in ap (λ n. take n l) e ∙ (take-suc l i x lt ∙ ap (λ y. take i l ++ y ∷ []) (sym p))
+
+module _ {X : Type 0} (P : X → Type 0) where
+  -- what holds of each holds of what stands at a place
+  pub holds_at : (l : List X) (i : ℕ) (x : X) → i < length l → x ≡ get_or l i x → All P l → P x
+  holds_at l i x lt is all = subst P (sym is) (All-get_or P l i x lt all)
+
+  -- and of the others
+  pub holds_without : (l : List X) (i : ℕ) → All P l → All P (remove l i)
+  holds_without l i all = All-append P (take i l) (drop (suc i) l) (All-take P i l all) (All-drop P (suc i) l all)
 
 module _ {W A : Type 0} (f : W → A) where
   pub waits-append : (xs ys : List (Kept W)) → waits_of f (xs ++ ys) ≡ waits_of f xs ++ waits_of f ys

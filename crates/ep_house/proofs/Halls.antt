@@ -1,8 +1,9 @@
 -- What a hall has seen, and which cell a pass is of.
-use Rattle.std.proofs.Common.{◌≡◌, ℕ, ◌<◌, ◌≤◌, ◌==◌, true, false, List, [], ◌∷◌, ◌++◌, length, refl, sym, ap, ◌∙◌, subst, suc, arith, append_assoc, length-append, Option, Some, None, Result, Ok}
+use Rattle.std.proofs.Common.{◌≡◌, ℕ, ◌<◌, ◌≤◌, ◌==◌, true, false, List, [], ◌∷◌, ◌++◌, All, length, refl, sym, ap, ◌∙◌, subst, suc, arith, append_assoc, length-append, Option, Some, None, Result, Ok}
 use Rattle.std.specs.Prelude.{if◌then◌else◌, nat_lt}
 use Rattle.std.proofs.lemmas.Bool.Decides.{nat_tests}
 use Rattle.std.proofs.lemmas.List.{map-append}
+use Rattle.std.proofs.lemmas.List.Elements.{All-head, All-tail}
 use Rattle.atomic_table.specs.Seated.{TableId}
 use Rattle.ep_outside.specs.Disk.{Contents}
 use Rattle.ep_cell.specs.declared.view.Call.{Call}
@@ -22,9 +23,20 @@ some_same : (x y : TableId) → Some x ≡ Some y → x ≡ y
 unfolding some_or
 some_same x y p = ap (some_or x) p
 
+all_last : {X : Type 0} (P : X → Type 0) (xs : List X) (x : X) → All P (xs ++ x ∷ []) → P x
+all_last P [] x all = All-head P x [] all
+all_last P (y ∷ ys) x all = all_last P ys x (All-tail P y (ys ++ x ∷ []) all)
+
 -- a call of the registry
 abbrev It : Type 0 → Type 0 → Type 0
 It C B = Call (List ℕ) (Result C (PassBad B))
+
+-- what holds of each call that a pass has seen holds of the one that it has made
+pub holds_last : {C B : Type 0} (P : List ℕ × Result C (PassBad B) → Type 0) (v w : Known (List ℕ) (Result C (PassBad B))) (name : List ℕ) (r : Result C (PassBad B)) → Makes v name r w → All P (pairs w.seen) → P (name, r)
+holds_last {C} {B} P v w name r makes all =
+    let x = makes.extends in
+    let whole : pairs w.seen ≡ pairs (v.seen ++ x.0) ++ (name, r) ∷ [] = ap pairs x.1 ∙ map-append (λ (c : It C B). (c.entry, c.reply)) (v.seen ++ x.0) (call v.number name r ∷ []) in
+    all_last P (pairs (v.seen ++ x.0)) (name, r) (subst (All P) whole all)
 
 module _ {C B : Type 0} (id : C → TableId) where
   -- what a hall knows, told

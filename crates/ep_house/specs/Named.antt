@@ -1,5 +1,5 @@
 -- Names with their cells, and what waits for a name.
-use Rattle.std.specs.Prelude.{ℕ, ◌≡◌, List, [], ◌∷◌, Result, IfOk}
+use Rattle.std.specs.Prelude.{ℕ, ◌≡◌, List, [], ◌∷◌, Option, Some, None, IfSome}
 use Rattle.std.specs.declared.sync.Arc.{Arc}
 use Rattle.std.specs.declared.alloc.Global.{Global}
 use Rattle.std.specs.Arc.{arc_value}
@@ -30,13 +30,22 @@ abbrev pub waits_of : {W A : Type 0} → (W → A) → List (Kept W) → List (L
 waits_of f [] = []
 waits_of f (k ∷ ks) = (k.name, f k.what) ∷ waits_of f ks
 
-module _ {M E R : Type 0} (limits_of : M → Limits) (limits : Limits) where
-  -- the machine of a cell was held to these limits as it was put in
-  abbrev pub IsWithin : Arc (Cell M E R) Global → Type 0
-  IsWithin a = limits_of (first_of (arc_value a)) ≡ limits
+module _ {M E R : Type 0} (limits_of : M → Limits) where
+  -- to what the machine of a cell was held as it was put in
+  abbrev pub limits_in : Arc (Cell M E R) Global → Limits
+  limits_in a = limits_of (first_of (arc_value a))
 
-  -- so was the one that waits, if a machine does
-  abbrev pub MayWait : {D : Type 0} → Waiting D M E R → Type 0
-  MayWait (waiting.Disk d) = Unit {0}
-  MayWait (waiting.Cell c) = limits_of (first_of c) ≡ limits
-  MayWait (waiting.Shared a) = IsWithin a
+  -- and that of what waits, if a machine does
+  abbrev pub limits_waiting : {D : Type 0} → Waiting D M E R → Option Limits
+  limits_waiting (waiting.Disk d) = None
+  limits_waiting (waiting.Cell c) = Some (limits_of (first_of c))
+  limits_waiting (waiting.Shared a) = Some (limits_in a)
+
+  module _ (limits : Limits) where
+    -- the machine of a cell was held to these limits
+    abbrev pub IsWithin : Arc (Cell M E R) Global → Type 0
+    IsWithin a = limits_in a ≡ limits
+
+    -- so was that of what waits, if a machine does
+    abbrev pub MayWait : {D : Type 0} → Waiting D M E R → Type 0
+    MayWait w = IfSome (limits_waiting w) (λ l. l ≡ limits)

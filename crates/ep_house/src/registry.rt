@@ -35,11 +35,12 @@ impl<H: Shelf, P: PadOver<H::D>> Registry<H, P> {
     ghost use Rattle.ep_house.specs.Register.{Comes, Keeps, MayOpen, Places, Step, found_in, in_cell, on_disk, without};
     ghost use Rattle.ep_pad.specs.Halls.{told_of};
     ghost use Rattle.ep_house.specs.Named.{shared_id, wait_of};
-    ghost use Rattle.ep_house.specs.Registry.{register};
+    ghost use Rattle.ep_house.specs.Registry.{held_to, register};
 
     /// No pad is open.
     pub fn new(alloc: Global, shelf: H, limits: Limits) -> Registry<H, P>
         ensures begun { register result ≡ record { limit = limits.pads; shelf = shelf; cells = []; waiting = [] } }
+        ensures limits { held_to result ≡ limits }
     {
         Registry {
             alloc,

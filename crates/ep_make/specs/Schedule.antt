@@ -10,7 +10,7 @@ use Rattle.ep_make.specs.Round.{IsDrained, Round, after, sent}
 
 -- what the pad is held to: the limits of a play
 abbrev pub make_limits : Limits
-make_limits = record { live = 500; logins = 1000000; units = 1000000; journal = 268435456; pads = 10000 }
+make_limits = record { live = 500; logins = 1000000; units = 1000000; journal = 268435456; openings = 0; pads = 10000 }
 
 -- the name of the pad
 abbrev pub pad_name : Text

@@ -101,7 +101,7 @@ own-taken k limit name base c t some of = go k.revs.revs refl some
     go (v ∷ vs) r n =
         let b : Birth = record { first = v; later = vs; nops = [] } in
         let p : PadState = record {
-          limits = record { live = 0; logins = 0; units = limit; journal = 0; pads = 0 };
+          limits = record { live = 0; logins = 0; units = limit; journal = 0; openings = 0; pads = 0 };
           epoch = 0;
           sessions = [];
           births = b ∷ [];

@@ -93,7 +93,7 @@ with_pair s pair = record { journal = s.journal; world = s.world; kepts = s.kept
 
 -- what the pad of a script is held to
 abbrev pub play_limits : Limits
-play_limits = record { live = 500; logins = 1000000; units = 1000000; journal = 268435456; pads = 10000 }
+play_limits = record { live = 500; logins = 1000000; units = 1000000; journal = 268435456; openings = 0; pads = 10000 }
 
 -- what a script begins with: no pad of this id yet, nobody, and no pair
 abbrev pub opening : Text → Scene

@@ -36,7 +36,7 @@ use Rattle.ep_history.specs.declared.seat.Why.{Why}
 use Rattle.ep_history.specs.declared.submission.Submission.{Submission}
 
 abbrev limits : Limits
-limits = record { live = 500; logins = 1000000; units = 1000000; journal = 0; pads = 1 }
+limits = record { live = 500; logins = 1000000; units = 1000000; journal = 0; openings = 0; pads = 1 }
 
 abbrev A : Name
 A = codes "A"
@@ -476,7 +476,7 @@ no_reader = refl
 
 -- limits
 abbrev small : WorldState
-small = run (Create 1 (codes "ab") ∷ Login 2 A ∷ inserts A 3 0 (codes "x") ∷ Submit A ∷ []) (start (record { live = 1; logins = 3; units = 3; journal = 0; pads = 1 }) (codes "pad"))
+small = run (Create 1 (codes "ab") ∷ Login 2 A ∷ inserts A 3 0 (codes "x") ∷ Submit A ∷ []) (start (record { live = 1; logins = 3; units = 3; journal = 0; openings = 0; pads = 1 }) (codes "pad"))
 
 too_long : refused small (small.actors A) ≡ Some (Refused (TooLong 4))
 too_long = refl

@@ -124,7 +124,7 @@ seat_from (Ended why) = record { author = []; read_only = false; end = Some why 
 
 abbrev pad_of : KeptSeats → PadState
 pad_of k = record {
-  limits = record { live = 0; logins = 0; units = 0; journal = 0; pads = 0 };
+  limits = record { live = 0; logins = 0; units = 0; journal = 0; openings = 0; pads = 0 };
   epoch = k.epoch;
   sessions = map seat_from k.places;
   births = [];

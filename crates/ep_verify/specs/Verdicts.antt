@@ -13,7 +13,7 @@ use Rattle.ep_verify.specs.declared.verdict.What.TheVariants.{Whole, Absent, For
 
 -- records are judged under no limit, since none decides what they make of a pad
 abbrev pub no_limits : Limits
-no_limits = record { live = 0; logins = 0; units = 0; journal = 0; pads = 0 }
+no_limits = record { live = 0; logins = 0; units = 0; journal = 0; openings = 0; pads = 0 }
 
 -- the file's records are a legal list, which tells this pad
 pub record Tells (file : List ℕ) (pad : PadState) : Type 0 where

@@ -1,11 +1,13 @@
-use Rattle.std.proofs.Common.{◌∙◌, ap, sym, subst, refl, inl, Ok, Err}
+use Rattle.std.proofs.Common.{◌≡◌, ◌∙◌, ap, sym, subst, refl, inl, Ok, Err}
+use Rattle.std.specs.Prelude.{IfOk}
+use Rattle.std.specs.Arc.{arc_value}
 use Rattle.ep_cell.specs.History.{pairs}
 use Rattle.ep_cell.specs.Passes.{first, first_of, id_of, known, seen}
 use Rattle.ep_house.specs.Register.{IsLegal, all_told}
-use Rattle.ep_house.specs.Named.{shared_id}
+use Rattle.ep_house.specs.Named.{IsWithin, shared_id}
 use Rattle.ep_house.specs.Registry.{register}
 use Rattle.ep_pad.specs.Halls.{Notes, cell_in}
-use Rattle.ep_house.proofs.Halls.{answers_told, answered, hall_leads, notes, told}
+use Rattle.ep_house.proofs.Halls.{answers_told, answered, hall_leads, holds_last, notes, told}
 use Rattle.ep_house.proofs.pads.Pads.pass.Goals as goal
 
 pub returns-in-Err-clause-noted : goal.returns-in-Err-clause-noted
@@ -33,6 +35,15 @@ returns-clause-noted g c =
     let lead = n.same ∙ (n.longer ∙ hall_leads shared_id u v w asked (Ok c.in-Ok.cell) c.in-Ok.ensures.makes (seen c.meet.new.other) m.same) in
     inl (subst (λ e. Notes Legal (told shared_id u) e (Ok (shared_id c.in-Ok.cell)) (told shared_id (known c.meet-2.new.other))) c.in-Ok-Ok.ensures'
     (notes shared_id u v w asked (Ok c.in-Ok.cell) c.in-Ok.ensures.makes Legal (known c.meet-2.new.other) lead n.number_other m.begins_one m.number_one m.own_one m.floor_one (register (first c.call.new.pass), within, c.in-Ok.ensures.legal.0)))
+
+pub returns-clause-limits : goal.returns-clause-limits
+returns-clause-limits g c =
+    let v = known c.meet.new.one in
+    let w = known c.call.new.pass in
+    let of = first c.call.new.pass in
+    let within : of.limits ≡ c.args.self.now.limits = ap (λ r. r.limits) (c.call.ensures.first ∙ (c.meet.ensures.first.0 ∙ c.requires.of.1)) ∙ c.args.self.now.begun in
+    let last : g.P.PadOver.limits_of (first_of (arc_value c.in-Ok.cell)) ≡ of.limits = holds_last (λ x. IfOk x.1 (IsWithin g.P.PadOver.limits_of of.limits)) v w c.in-Ok-Ok.asked (Ok c.in-Ok.cell) c.in-Ok.ensures.makes c.in-Ok.ensures.legal.1 in
+    ap g.P.PadOver.limits_of (c.new_pass-pass.ensures.first ∙ ap first_of c.deref.ensures) ∙ (last ∙ within)
 
 pub returns-clause-one : goal.returns-clause-one
 returns-clause-one g c =

@@ -5,8 +5,11 @@ use Rattle.ep_house.proofs.Finding.{waits-append}
 use Rattle.ep_house.proofs.Placing.{anywhere}
 use Rattle.ep_house.proofs.registry.Registry.put.Goals as goal
 
-pub returns-in-Ok : goal.returns-in-Ok
-returns-in-Ok g c = λ disk. anywhere _ _ c.args.name _ disk _ c.share.ensures
+pub share-requires-clause-within : goal.share-requires-clause-within
+share-requires-clause-within g c = ap g.P.PadOver.limits_of c.in-Ok.ensures.first ∙ c.requires.limits
 
-pub returns-in-Err : goal.returns-in-Err
-returns-in-Err g c = λ disk. (refl, refl, refl, (on_disk c.into_disk-disk.result, ap (waits_of wait_of) c.push_reserved.ensures.items ∙ waits-append wait_of c.args.self.now.kept.items _, tt))
+pub returns-in-Ok-clause-places : goal.returns-in-Ok-clause-places
+returns-in-Ok-clause-places g c = λ disk. anywhere _ _ c.args.name _ disk _ c.share.ensures.places
+
+pub returns-in-Err-clause-places : goal.returns-in-Err-clause-places
+returns-in-Err-clause-places g c = λ disk. (refl, refl, refl, (on_disk c.into_disk-disk.result, ap (waits_of wait_of) c.push_reserved.ensures.items ∙ waits-append wait_of c.args.self.now.kept.items _, tt))
