@@ -202,10 +202,7 @@ fn undo_and_redo(rt: HostRuntime) -> Result<(), Fail> {
         ),
     ] {
         let case = Case::play(script.as_bytes());
-        assert!(rt;
-            comes_to(&rt, rt.alloc(), case, output, 0)?,
-            "at {script}"
-        );
+        assert!(rt; comes_to(&rt, rt.alloc(), case, output, 0)?, "at {script}");
     }
     Ok(())
 }

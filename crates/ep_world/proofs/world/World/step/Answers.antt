@@ -116,12 +116,12 @@ returns-in-Stop-Some-clause-ends g c =
 pub returns-in-Undo-clause-plays : goal.returns-in-Undo-clause-plays
 returns-in-Undo-clause-plays g c =
     let e : c.args.event ≡ event.Undo c.in-Undo.name = cc (c.in-Undo.is, c.in-Undo.name-is) in
-    subst (λ x. Plays g.D.Disk.told g.D.Device.failures g.D.Disk.stops_alone c.args.self.now c.args.now x c.remake-in-Undo.result c.remake-in-Undo.new.self) (sym e) (c.remake-in-Undo.ensures.plays c.args.now)
+    subst (λ x. Plays g.D.Disk.told g.D.Device.failures g.D.Disk.stops_alone c.args.self.now c.args.now x c.remake.result c.remake.new.self) (sym e) (c.remake.ensures.plays c.args.now)
 
 pub returns-in-Undo-clause-ends : goal.returns-in-Undo-clause-ends
 returns-in-Undo-clause-ends g c =
     let e : c.args.event ≡ event.Undo c.in-Undo.name = cc (c.in-Undo.is, c.in-Undo.name-is) in
-    subst (λ x. Ends g.D.Disk.told g.D.Device.failures g.D.Disk.stops_alone c.args.self.now c.args.now x c.remake-in-Undo.result c.remake-in-Undo.new.self) (sym e) (c.remake-in-Undo.ensures.ends c.args.now)
+    subst (λ x. Ends g.D.Disk.told g.D.Device.failures g.D.Disk.stops_alone c.args.self.now c.args.now x c.remake.result c.remake.new.self) (sym e) (c.remake.ensures.ends c.args.now)
 
 pub returns-in-Redo-clause-plays : goal.returns-in-Redo-clause-plays
 returns-in-Redo-clause-plays g c =
