@@ -60,6 +60,14 @@ pub enum Event {
         name: Units,
         edit: Local,
     },
+    /// A client takes back the last edit that it hasn't taken back.
+    Undo {
+        name: Units,
+    },
+    /// A client makes the last edit again that it took back.
+    Redo {
+        name: Units,
+    },
     /// A client sends its local change.
     Submit {
         name: Units,

@@ -18,6 +18,8 @@ pub enum Verb {
     Insert,
     Delete,
     Format,
+    Undo,
+    Redo,
     Inject,
     Submit,
     Take,
@@ -107,6 +109,12 @@ pub enum Shown {
     /// The number that a pair has in the script's pool.
     Attr {
         number: u64,
+    },
+    /// A client took an edit back, or made it again, by this change of what it saw.
+    Remade {
+        verb: Verb,
+        name: Units,
+        change: Change,
     },
     Submitted {
         name: Units,

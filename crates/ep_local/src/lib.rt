@@ -6,4 +6,4 @@
 
 mod local;
 
-pub use local::edit_view;
+pub use local::{edit_view, local_change};

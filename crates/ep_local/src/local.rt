@@ -42,7 +42,7 @@ pub fn edit_view(
 }
 
 /// The change of a document that a local edit is.
-fn local_change(alloc: Global, doc: &Doc, edit: &Local) -> Result<Change, SpliceBad>
+pub fn local_change(alloc: Global, doc: &Doc, edit: &Local) -> Result<Change, SpliceBad>
     requires { is_local_text edit.now ≡ true }
     ensures { IsLocal edit.now doc.now result }
 {

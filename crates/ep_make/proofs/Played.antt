@@ -7,9 +7,9 @@ use Rattle.ep_history.specs.declared.pad_bad.PadBad.TheVariants.{JournalFull}
 use Rattle.ep_history.specs.declared.record.Record.{Record}
 use Rattle.ep_history.proofs.Lists.{none_some, some_same}
 use Rattle.ep_schedule.specs.World.{WorldState, Event as AnEvent}
-use Rattle.ep_schedule.specs.Kepts.{Kepts}
+use Rattle.ep_world.specs.Kepts.{Kepts, nobodies}
 use Rattle.ep_event.specs.declared.event.Event.{Event}
-use Rattle.ep_event.specs.declared.event.Event.TheVariants.{Create, SetText, Delete, Login, Guest, Edit, Submit, Inject, Take, Late, Push, Hear, Lose, Resume, Stop}
+use Rattle.ep_event.specs.declared.event.Event.TheVariants.{Create, SetText, Delete, Login, Guest, Edit, Submit, Inject, Take, Late, Push, Hear, Lose, Resume, Stop, Undo, Redo}
 use Rattle.ep_event.specs.declared.shown.Shown.{Shown}
 use Rattle.ep_world.specs.Events.{event_at, happened, kept_happened}
 use Rattle.ep_world.specs.Shows.{shows}
@@ -18,8 +18,8 @@ use Rattle.ep_world.specs.Standing.{Comes, IsPlayed, IsRun}
 use Rattle.ep_world.specs.Standing.IsPlayed.{IsEvent, HasNoRoom}
 use Rattle.ep_world.specs.declared.world.World.{World}
 use Rattle.ep_world.proofs.Lengths.{full_bytes}
-use Rattle.ep_world.proofs.Leading.{more}
-use Rattle.ep_make.specs.Made.{IsOf, is_overfull, is_stop}
+use Rattle.ep_world.proofs.Leading.{more-event}
+use Rattle.ep_make.specs.Made.{IsOf, is_overfull, is_unscheduled}
 use Rattle.ep_make.specs.Round.{after, does, is_nothing}
 
 -- a journal without room is shown as one
@@ -33,6 +33,8 @@ overfull e b s f h = go e f.0 (sym (ap (no_room e) f.1) ∙ h)
     go (Login n) bytes h = sym (ap is_overfull (some_same h))
     go (Guest n read_only) bytes h = sym (ap is_overfull (some_same h))
     go (Edit n e) bytes h = none_some h
+    go (Undo n) bytes h = none_some h
+    go (Redo n) bytes h = none_some h
     go (Submit n) bytes h = none_some h
     go (Inject n base change) bytes h = none_some h
     go (Take n) bytes h = sym (ap is_overfull (some_same h))
@@ -52,53 +54,57 @@ overfull-at rs w kept e s h = go (full_for rs w 0 kept e) refl h
     go None q h = none_some h
     go (Some b) q h = overfull e b s (full_bytes rs w 0 kept e b q) h
 
--- the choice is that of a stop alone
-same_event : (w : WorldState) (kept : Bool) (e : Event) → is_stop e ≡ false → event_at w 0 kept e ≡ event_at w 0 false e
-same_event w kept (Create text) h = refl
-same_event w kept (SetText text) h = refl
-same_event w kept Delete h = refl
-same_event w kept (Login n) h = refl
-same_event w kept (Guest n read_only) h = refl
-same_event w kept (Edit n e) h = refl
-same_event w kept (Submit n) h = refl
-same_event w kept (Inject n base change) h = refl
-same_event w kept (Take n) h = refl
-same_event w kept (Late n) h = refl
-same_event w kept (Push n) h = refl
-same_event w kept (Hear n) h = refl
-same_event w kept (Lose n) h = refl
-same_event w kept (Resume n) h = refl
-same_event w kept (Stop at) h = absurd (let e : true ≡ false = h in cc)
+-- the choice is that of a stop alone, and a stack that of an undo and a redo
+same_event : (w : WorldState) (ks : Kepts) (kept : Bool) (e : Event) → is_unscheduled e ≡ false → event_at w ks 0 kept e ≡ event_at w nobodies 0 false e
+same_event w ks kept (Create text) h = refl
+same_event w ks kept (SetText text) h = refl
+same_event w ks kept Delete h = refl
+same_event w ks kept (Login n) h = refl
+same_event w ks kept (Guest n read_only) h = refl
+same_event w ks kept (Edit n e) h = refl
+same_event w ks kept (Submit n) h = refl
+same_event w ks kept (Inject n base change) h = refl
+same_event w ks kept (Take n) h = refl
+same_event w ks kept (Late n) h = refl
+same_event w ks kept (Push n) h = refl
+same_event w ks kept (Hear n) h = refl
+same_event w ks kept (Lose n) h = refl
+same_event w ks kept (Resume n) h = refl
+same_event w ks kept (Undo n) h = absurd (let e : true ≡ false = h in cc)
+same_event w ks kept (Redo n) h = absurd (let e : true ≡ false = h in cc)
+same_event w ks kept (Stop at) h = absurd (let e : true ≡ false = h in cc)
 
-same_shown : (w : WorldState) (kept : Bool) (e : Event) → is_stop e ≡ false → shows w 0 kept e ≡ shows w 0 false e
-same_shown w kept (Create text) h = refl
-same_shown w kept (SetText text) h = refl
-same_shown w kept Delete h = refl
-same_shown w kept (Login n) h = refl
-same_shown w kept (Guest n read_only) h = refl
-same_shown w kept (Edit n e) h = refl
-same_shown w kept (Submit n) h = refl
-same_shown w kept (Inject n base change) h = refl
-same_shown w kept (Take n) h = refl
-same_shown w kept (Late n) h = refl
-same_shown w kept (Push n) h = refl
-same_shown w kept (Hear n) h = refl
-same_shown w kept (Lose n) h = refl
-same_shown w kept (Resume n) h = refl
-same_shown w kept (Stop at) h = absurd (let e : true ≡ false = h in cc)
+same_shown : (w : WorldState) (ks : Kepts) (kept : Bool) (e : Event) → is_unscheduled e ≡ false → shows w ks 0 kept e ≡ shows w nobodies 0 false e
+same_shown w ks kept (Create text) h = refl
+same_shown w ks kept (SetText text) h = refl
+same_shown w ks kept Delete h = refl
+same_shown w ks kept (Login n) h = refl
+same_shown w ks kept (Guest n read_only) h = refl
+same_shown w ks kept (Edit n e) h = refl
+same_shown w ks kept (Submit n) h = refl
+same_shown w ks kept (Inject n base change) h = refl
+same_shown w ks kept (Take n) h = refl
+same_shown w ks kept (Late n) h = refl
+same_shown w ks kept (Push n) h = refl
+same_shown w ks kept (Hear n) h = refl
+same_shown w ks kept (Lose n) h = refl
+same_shown w ks kept (Resume n) h = refl
+same_shown w ks kept (Undo n) h = absurd (let e : true ≡ false = h in cc)
+same_shown w ks kept (Redo n) h = absurd (let e : true ≡ false = h in cc)
+same_shown w ks kept (Stop at) h = absurd (let e : true ≡ false = h in cc)
 
 module _ {D : Type 0} (told : D → Option Contents) (failures : D → ℕ) (stops_alone : D → Bool) where
-  played : (alone : Bool) (rs : List Record) (w : WorldState) (ks : Kepts) (e : Event) (new : World D) (s : Shown) (b : Bool) → b ≡ is_nothing s → IsRun w ks → is_stop e ≡ false → is_overfull s ≡ false
+  played : (alone : Bool) (rs : List Record) (w : WorldState) (ks : Kepts) (e : Event) (new : World D) (s : Shown) (b : Bool) → b ≡ is_nothing s → IsRun w ks → is_unscheduled e ≡ false → is_overfull s ≡ false
       → IsPlayed told failures stops_alone alone rs w ks 0 e new s → (not b ≡ does w e) × IsOf told failures stops_alone new (after w e)
   unfolding after does
   played alone rs w ks e new s b is run plain f (IsEvent kept shown room d stands) = (
-    ap not (is ∙ ap is_nothing (shown ∙ same_shown w kept e plain)),
-    subst (λ (o : Option AnEvent). IsOf told failures stops_alone new (happened w o)) (same_event w kept e plain)
-        (record { kepts = kept_happened w ks (event_at w 0 kept e); alone = alone; journal = journal_after rs w 0 kept e; run = more w ks (event_at w 0 kept e) run; stands = stands }),
+    ap not (is ∙ ap is_nothing (shown ∙ same_shown w ks kept e plain)),
+    subst (λ (o : Option AnEvent). IsOf told failures stops_alone new (happened w o)) (same_event w ks kept e plain)
+        (record { kepts = kept_happened w ks e (event_at w ks 0 kept e); alone = alone; journal = journal_after rs w 0 kept e; run = more-event w ks 0 kept e run; stands = stands }),
   )
   played alone rs w ks e new s b is run plain f (HasNoRoom kept full d stands) = absurd (let h : true ≡ false = sym (overfull-at rs w kept e s full) ∙ f in cc)
 
   -- what an event came to that is shown, and no stop
-  pub plays : (w : WorldState) (old new : World D) (e : Event) (s : Shown) (b : Bool) → b ≡ is_nothing s → is_stop e ≡ false → is_overfull s ≡ false → (at : IsOf told failures stops_alone old w)
+  pub plays : (w : WorldState) (old new : World D) (e : Event) (s : Shown) (b : Bool) → b ≡ is_nothing s → is_unscheduled e ≡ false → is_overfull s ≡ false → (at : IsOf told failures stops_alone old w)
       → Comes told failures stops_alone at.alone at.journal w at.kepts 0 e new (Ok s) → (not b ≡ does w e) × IsOf told failures stops_alone new (after w e)
   plays w old new e s b is plain f at h = played at.alone at.journal w at.kepts e new s b is at.run plain f h.2

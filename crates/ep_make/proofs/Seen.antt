@@ -10,7 +10,8 @@ use Rattle.ep_history.specs.Pad.{PadState, newest}
 use Rattle.ep_history.proofs.Lists.{none_some, some_same}
 use Rattle.ep_schedule.specs.World.{Name, Actor, Member, WorldState}
 use Rattle.ep_schedule.specs.World.Actor.{Nobody, Guest, Named}
-use Rattle.ep_schedule.specs.Kepts.{Kepts, KeepsActor}
+use Rattle.ep_schedule.specs.Kepts.{KeepsActor}
+use Rattle.ep_world.specs.Kepts.{Kepts}
 use Rattle.ep_event.specs.declared.shown.Shown.{Shown}
 use Rattle.ep_event.specs.declared.shown.Shown.TheVariants as shown
 use Rattle.ep_event.specs.declared.shown.Verb.TheVariants as verb
@@ -41,10 +42,10 @@ of_some w (Named m) k c d f h e = ap f (sym h.view) ∙ ap (λ (k : KeptClient).
 module _ (w : WorldState) (ks : Kepts) (n : Name) where
   -- a client's view is what it sees
   pub seen : {A : Type 0} (c : KeptClient) (d : A) (f : Doc → A) → IsRun w ks → client_kept w ks n ≡ Some c → of_client d (λ m. f (view_of w.pad m)) (w.actors n) ≡ f c.view
-  seen c d f run e = of_some w (w.actors n) (ks n) c d f (kept w ks run n) e
+  seen c d f run e = of_some w (w.actors n) (ks n).client c d f (kept w ks run n) e
 
   pub unseen : {A : Type 0} (d : A) (f : Doc → A) → client_kept w ks n ≡ None → of_client d (λ m. f (view_of w.pad m)) (w.actors n) ≡ d
-  unseen d f e = of_none (w.actors n) (ks n) d (λ m. f (view_of w.pad m)) e
+  unseen d f e = of_none (w.actors n) (ks n).client d (λ m. f (view_of w.pad m)) e
 
 -- what is found is what is kept
 pub map_some : {A B : Type 0} (f : A → B) (o : Option A) (x : A) (k : Option B) → option_map f o ≡ k → o ≡ Some x → k ≡ Some (f x)

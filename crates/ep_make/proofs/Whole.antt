@@ -3,7 +3,7 @@ use Rattle.std.proofs.Common.{◌≡◌, ℕ, Bool, List, [], Option, Some, sym,
 use Rattle.ep_units.specs.Text.{Text}
 use Rattle.ep_outside.specs.Disk.{Contents, settled}
 use Rattle.ep_pad_file.specs.Standing.{Holds}
-use Rattle.ep_schedule.specs.Kepts.{nobodies}
+use Rattle.ep_world.specs.Kepts.{nobodies}
 use Rattle.ep_schedule.specs.World.{start}
 use Rattle.ep_event.specs.declared.event.Event.TheVariants.{Create}
 use Rattle.ep_history.specs.declared.record.Record.{Record}

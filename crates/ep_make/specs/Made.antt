@@ -2,10 +2,10 @@
 use Rattle.std.specs.Prelude.{◌≡◌, ℕ, Bool, true, false, List, Option, Result, IfOk}
 use Rattle.ep_outside.specs.Disk.{Contents}
 use Rattle.ep_outside.specs.Outside.{Takes, TakesPart}
-use Rattle.ep_schedule.specs.Kepts.{Kepts}
+use Rattle.ep_world.specs.Kepts.{Kepts}
 use Rattle.ep_schedule.specs.World.{WorldState}
 use Rattle.ep_event.specs.declared.event.Event.{Event}
-use Rattle.ep_event.specs.declared.event.Event.TheVariants.{Stop}
+use Rattle.ep_event.specs.declared.event.Event.TheVariants.{Redo, Stop, Undo}
 use Rattle.ep_event.specs.declared.shown.Shown.{Shown}
 use Rattle.ep_event.specs.declared.shown.Shown.TheVariants.{Refused}
 use Rattle.ep_event.specs.declared.shown.Reason.TheVariants as why
@@ -35,9 +35,12 @@ BeginsLines number clients edits held now = (end : WorldState) × Makes number c
 
 -- ---- the world in code
 
-abbrev pub is_stop : Event → Bool
-is_stop (Stop at) = true
-is_stop e = false
+-- what no schedule has
+abbrev pub is_unscheduled : Event → Bool
+is_unscheduled (Undo n) = true
+is_unscheduled (Redo n) = true
+is_unscheduled (Stop at) = true
+is_unscheduled e = false
 
 -- that the journal had no room is shown
 abbrev pub is_overfull : Shown → Bool

@@ -5,6 +5,7 @@ use Rattle.ep_event.specs.declared.event.Event.{Event}
 use Rattle.ep_event.specs.declared.event.Event.TheVariants.{Edit, Hear, Lose, Push, Resume, Submit, Take}
 use Rattle.ep_event.specs.declared.shown.Shown.{Shown}
 use Rattle.ep_event.specs.declared.shown.Shown.TheVariants.{Nothing}
+use Rattle.ep_world.specs.Kepts.{nobodies}
 use Rattle.ep_world.specs.Events.{event_at, happened, of_client, view_of}
 use Rattle.ep_world.specs.Shows.{shows}
 use Rattle.ep_make.specs.Draws.{drawn_edit, name_of}
@@ -12,9 +13,10 @@ use Rattle.ep_make.specs.Generator.{following, pick}
 
 -- ---- events
 
--- the world after an event at the moment 0; the choice is that of a stop, and a schedule has none
+-- the world after an event at the moment 0. Neither a stop nor an undo or a redo is one of a schedule, so that there is nothing to
+-- choose, and no stack is asked.
 unfoldable pub after : WorldState → Event → WorldState
-after w e = happened w (event_at w 0 false e)
+after w e = happened w (event_at w nobodies 0 false e)
 
 -- that there is nothing to do is shown
 abbrev pub is_nothing : Shown → Bool
@@ -23,7 +25,7 @@ is_nothing shown = false
 
 -- an event finds something to do
 unfoldable pub does : WorldState → Event → Bool
-does w e = not (is_nothing (shows w 0 false e))
+does w e = not (is_nothing (shows w nobodies 0 false e))
 
 -- so many pushes tell something, which is heard, and the next says that there is nothing
 abbrev pub Drains : ℕ → Name → WorldState → WorldState → Type 0

@@ -2,7 +2,7 @@
 
 ghost use Rattle.std.specs.Prelude.{◌≡◌, false, OnOk};
 ghost use Rattle.ep_event.specs.declared.event.Event.TheVariants as event;
-ghost use Rattle.ep_make.specs.Made.{Leads, Moves, Plays, is_overfull, is_stop};
+ghost use Rattle.ep_make.specs.Made.{Leads, Moves, Plays, is_overfull, is_unscheduled};
 ghost use Rattle.ep_make.specs.Round.{IsDrained, after, back, is_nothing, sent};
 
 use crate::bad::Stopped;
@@ -15,7 +15,7 @@ use std::alloc::Global;
 
 /// One event at the moment 0, and whether it found something to do. A journal without room ends the schedule.
 pub(crate) fn play<D: Crash>(world: &mut World<D>, event: Event) -> Result<bool, Stopped>
-    requires { is_stop event ≡ false }
+    requires { is_unscheduled event ≡ false }
     ensures { Plays D.told D.failures D.stops_alone event world.old result world.new }
 {
     let shown = world.step(0, event)?;

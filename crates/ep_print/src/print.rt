@@ -87,6 +87,15 @@ fn attr(alloc: Global, number: u64) -> Result<String, NoMemory>
     Ok(format!(in alloc; "attr {number}\n")?)
 }
 
+fn remade(alloc: Global, verb: Verb, name: &Units, change: &Change) -> Result<String, NoMemory>
+    ensures { IfOk result (λ s. string_bytes s ≡ printed (shown.Remade verb name.now change.now)) }
+{
+    let verb = verb_word(verb);
+    let name = name.to_text_lossy(alloc)?;
+    let change = print_change(alloc, change)?;
+    Ok(format!(in alloc; "{verb} {name} {change}\n")?)
+}
+
 fn submitted(alloc: Global, name: &Units, base: u64, change: &Change) -> Result<String, NoMemory>
     ensures { IfOk result (λ s. string_bytes s ≡ printed (shown.Submitted name.now base change.now)) }
 {
@@ -243,6 +252,7 @@ pub fn print_shown(alloc: Global, shown: &Shown) -> Result<String, NoMemory>
         Shown::Nothing { verb, name } => nothing(alloc, *verb, name),
         Shown::Refused { verb, name, why } => refused(alloc, *verb, name, *why),
         Shown::Attr { number } => attr(alloc, *number),
+        Shown::Remade { verb, name, change } => remade(alloc, *verb, name, change),
         Shown::Submitted { name, base, change } => submitted(alloc, name, *base, change),
         Shown::Taken {
             verb,

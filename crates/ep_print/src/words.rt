@@ -18,6 +18,8 @@ pub(crate) fn verb_word(verb: Verb) -> &'static str
         Verb::Insert => "insert",
         Verb::Delete => "delete",
         Verb::Format => "format",
+        Verb::Undo => "undo",
+        Verb::Redo => "redo",
         Verb::Inject => "inject",
         Verb::Submit => "submit",
         Verb::Take => "take",

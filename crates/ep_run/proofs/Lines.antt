@@ -13,7 +13,7 @@ use Rattle.ep_pad_file.specs.Stopping.{gate_behind, opens_gate}
 use Rattle.ep_schedule.specs.Headline.{next_up}
 use Rattle.ep_schedule.specs.World.{Actor, Member, WorldState}
 use Rattle.ep_schedule.specs.World.Actor.{Nobody, Guest, Named}
-use Rattle.ep_schedule.specs.Kepts.{Kepts}
+use Rattle.ep_world.specs.Kepts.{Kepts}
 use Rattle.ep_event.specs.declared.event.Event.{Event as Told}
 use Rattle.ep_event.specs.declared.event.Event.TheVariants as event
 use Rattle.ep_event.specs.declared.shown.Shown.{Shown}
@@ -33,7 +33,7 @@ use Rattle.ep_world.specs.Standing.IsPlayed.{IsEvent as EventPlayed, HasNoRoom a
 use Rattle.ep_world.specs.declared.bad.WorldBad.{WorldBad}
 use Rattle.ep_world.specs.declared.bad.WorldBad.TheVariants as world_bad
 use Rattle.ep_world.specs.declared.world.World.{World}
-use Rattle.ep_world.proofs.Leading.{more}
+use Rattle.ep_world.proofs.Leading.{more-event, more-full}
 use Rattle.ep_run.specs.Play.{Scene, Becomes, Happens, Shows, ShowsRead, ShowsSeen, after, keeps_left, leaves_gate, line_read, line_seen, line_stops, played, stop_at, stops, unless, written}
 use Rattle.ep_run.specs.Played.{IsStage, Plays, PlaysLine, Puts, Steps}
 use Rattle.ep_run.specs.Stops.{stop_of_line, stop_of_world}
@@ -87,6 +87,8 @@ event-seen k s next event.Delete o h = h
 event-seen k s next (event.Login n) o h = h
 event-seen k s next (event.Guest n r) o h = h
 event-seen k s next (event.Edit n e) o h = h
+event-seen k s next (event.Undo n) o h = h
+event-seen k s next (event.Redo n) o h = h
 event-seen k s next (event.Submit n) o h = h
 event-seen k s next (event.Inject n b c) o h = h
 event-seen k s next (event.Take n) o h = h
@@ -116,6 +118,8 @@ stops-event s event.Delete = refl
 stops-event s (event.Login n) = refl
 stops-event s (event.Guest n r) = refl
 stops-event s (event.Edit n e) = refl
+stops-event s (event.Undo n) = refl
+stops-event s (event.Redo n) = refl
 stops-event s (event.Submit n) = refl
 stops-event s (event.Inject n b c) = refl
 stops-event s (event.Take n) = refl
@@ -146,17 +150,17 @@ module _ {D : Type 0} (told : D → Option Contents) (failures : D → ℕ) (sto
           next,
           (kept, d refl, subst (Becomes kept k s e (Some x) next) (sym r) (ap Some a, refl)),
           record {
-            run = more s.world s.kepts (event_at s.world k kept e) is.run;
+            run = more-event s.world s.kepts k kept e is.run;
             world = subst (λ c. StandsFor told failures stops_alone true next.journal c next.world next.kepts) (sym at) b;
             pool = pool;
           },
         )
     happens-so x (NoRoomPlayed kept a d b) =
-        let next = after s (overfull_at s.journal s.world k kept e) (journal_full s.journal s.world k kept e) in (
+        let next = after s e (overfull_at s.journal s.world k kept e) (journal_full s.journal s.world k kept e) in (
           next,
           (kept, d refl, subst (Becomes kept k s e (Some x) next) (sym a) (refl, refl)),
           record {
-            run = more s.world s.kepts (overfull_at s.journal s.world k kept e) is.run;
+            run = more-full s.journal s.world s.kepts k kept e is.run;
             world = subst (λ c. StandsFor told failures stops_alone true next.journal c next.world next.kepts) (sym at) b;
             pool = pool;
           },

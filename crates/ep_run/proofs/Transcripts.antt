@@ -60,6 +60,8 @@ some-decided rs w k event.Delete = (false, tt)
 some-decided rs w k (event.Login n) = (false, tt)
 some-decided rs w k (event.Guest n r) = (false, tt)
 some-decided rs w k (event.Edit n e) = (false, tt)
+some-decided rs w k (event.Undo n) = (false, tt)
+some-decided rs w k (event.Redo n) = (false, tt)
 some-decided rs w k (event.Submit n) = (false, tt)
 some-decided rs w k (event.Inject n b c) = (false, tt)
 some-decided rs w k (event.Take n) = (false, tt)
@@ -71,8 +73,8 @@ some-decided rs w k (event.Resume n) = (false, tt)
 
 -- and there is room, or there isn't
 some-by : (k : ℕ) (s : Scene) (e : Told) (kept : Bool) (f : Option Shown) → (o : Option Shown) × (next : Scene) × Becomes kept k s e o next f
-some-by k s e kept None = (Some (shows s.world k kept e), played k s kept e, (refl, refl))
-some-by k s e kept (Some x) = (Some x, after s (overfull_at s.journal s.world k kept e) (journal_full s.journal s.world k kept e), (refl, refl))
+some-by k s e kept None = (Some (shows s.world s.kepts k kept e), played k s kept e, (refl, refl))
+some-by k s e kept (Some x) = (Some x, after s e (overfull_at s.journal s.world k kept e) (journal_full s.journal s.world k kept e), (refl, refl))
 
 some-event : (k : ℕ) (s : Scene) (e : Told) → (o : Option Shown) × (next : Scene) × Happens k s e o next
 some-event k s e =

@@ -10,7 +10,7 @@ use Rattle.ep_outside.specs.declared.image.Image.TheVariants.{Old}
 use Rattle.ep_outside.specs.declared.limits.Limits.{Limits}
 use Rattle.ep_history.specs.declared.record.Record.{Record}
 use Rattle.ep_schedule.specs.World.{WorldState, Event, start}
-use Rattle.ep_schedule.specs.Kepts.{Kepts, nobodies}
+use Rattle.ep_world.specs.Kepts.{Kepts, nobodies}
 use Rattle.ep_schedule.specs.Headline.{next_up}
 use Rattle.ep_pad_file.specs.Stopping.{gate_behind}
 use Rattle.ep_event.specs.declared.event.Event.{Event as Told}
@@ -72,20 +72,20 @@ reads_of script = reads_at 0 (rows_of script)
 
 -- ---- what stands between two lines
 
--- the pad's journal, the world of the rules, its clients as they are kept, and the script's pool
+-- the pad's journal, the world of the rules, its clients as they are kept with their stacks, and the script's pool
 pub record Scene : Type 0 where
   pub journal : List Record
   pub world : WorldState
   pub kepts : Kepts
   pub pool : List Pair
 
--- an event happens, where there is one, and this is the journal then
-abbrev pub after : Scene → Option Event → List Record → Scene
-after s e journal = record { journal = journal; world = happened s.world e; kepts = kept_happened s.world s.kepts e; pool = s.pool }
+-- what was asked for comes to an event, or to none, and this is the journal then
+abbrev pub after : Scene → Told → Option Event → List Record → Scene
+after s asked e journal = record { journal = journal; world = happened s.world e; kepts = kept_happened s.world s.kepts asked e; pool = s.pool }
 
 -- the event of line k, which is recorded
 abbrev pub played : ℕ → Scene → Bool → Told → Scene
-played k s kept e = after s (event_at s.world k kept e) (journal_after s.journal s.world k kept e)
+played k s kept e = after s e (event_at s.world s.kepts k kept e) (journal_after s.journal s.world k kept e)
 
 -- the pair goes to the pool's end, where it isn't there
 abbrev pub with_pair : Scene → Pair → Scene
@@ -122,9 +122,9 @@ stops w (Err reason) = Some reason
 
 -- what is shown of the event of line k, and what stands behind it: it happens; or there is no room for it, and that is shown
 abbrev pub Becomes : Bool → ℕ → Scene → Told → Option Shown → Scene → Option Shown → Type 0
-Becomes kept k s e o next None = (o ≡ Some (shows s.world k kept e)) × (next ≡ played k s kept e)
+Becomes kept k s e o next None = (o ≡ Some (shows s.world s.kepts k kept e)) × (next ≡ played k s kept e)
 Becomes kept k s e o next (Some full) =
-    (o ≡ Some full) × (next ≡ after s (overfull_at s.journal s.world k kept e) (journal_full s.journal s.world k kept e))
+    (o ≡ Some full) × (next ≡ after s e (overfull_at s.journal s.world k kept e) (journal_full s.journal s.world k kept e))
 
 -- Line k is an event, at the moment of k milliseconds: it happens, and is shown. Or the journal has no room for its record, or
 -- for an opening, and says so. Of a crash within a take the image that is asked for decides whether the record is kept.

@@ -29,6 +29,8 @@ named_lines =
     (codes "login", λ n. line.Event (event.Login n))
     ∷ (codes "guest", λ n. line.Event (event.Guest n false))
     ∷ (codes "reader", λ n. line.Event (event.Guest n true))
+    ∷ (codes "undo", λ n. line.Event (event.Undo n))
+    ∷ (codes "redo", λ n. line.Event (event.Redo n))
     ∷ (codes "submit", λ n. line.Event (event.Submit n))
     ∷ (codes "take", λ n. line.Event (event.Take n))
     ∷ (codes "late", λ n. line.Event (event.Late n))

@@ -167,6 +167,8 @@ fn named(word: &str, name: Units) -> Option<Line>
             name,
             read_only: true,
         })),
+        "undo" => Some(Line::Event(Event::Undo { name })),
+        "redo" => Some(Line::Event(Event::Redo { name })),
         "submit" => Some(Line::Event(Event::Submit { name })),
         "take" => Some(Line::Event(Event::Take { name })),
         "late" => Some(Line::Event(Event::Late { name })),

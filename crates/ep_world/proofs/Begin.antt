@@ -10,7 +10,7 @@ use Rattle.ep_history.specs.declared.pad_bad.PadBad.TheVariants as bad
 use Rattle.ep_history.specs.declared.record.Record.TheVariants as record_of
 use Rattle.ep_history.proofs.Steps.{first-kept}
 use Rattle.ep_schedule.specs.World.{start}
-use Rattle.ep_schedule.specs.Kepts.{nobodies}
+use Rattle.ep_world.specs.Kepts.{nobodies}
 use Rattle.ep_pad.specs.Opening.{IsRefused, found as left_on}
 use Rattle.ep_pad.specs.Standing.{Stands, opening}
 use Rattle.ep_pad_file.specs.Standing.{size}

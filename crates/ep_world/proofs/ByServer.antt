@@ -14,7 +14,7 @@ use Rattle.ep_history.specs.Server.{create_fault, gone_fault, set_fault, set_hea
 use Rattle.ep_history.specs.declared.pad_bad.PadBad.{PadBad}
 use Rattle.ep_history.specs.declared.pad_bad.PadBad.TheVariants as bad
 use Rattle.ep_schedule.specs.World.{Name, WorldState, pad_if, with_pad}
-use Rattle.ep_schedule.specs.Kepts.{Kepts}
+use Rattle.ep_world.specs.Kepts.{Kepts}
 use Rattle.ep_event.specs.declared.event.Event.{Event as Told}
 use Rattle.ep_event.specs.declared.event.Event.TheVariants as told
 use Rattle.ep_event.specs.declared.shown.Shown.{Shown}
@@ -37,8 +37,8 @@ use Rattle.ep_history.specs.declared.record.Record.{Record}
 pub record Refusing (w x : WorldState) (ks js : Kepts) (pad : PadState) (now : ℕ) (e : Told) (entry : Entry) (v : Verb) (n : Option Name) : Type 0 where
   pub known : is_known w e ≡ true
   pub text : has_text e ≡ true
-  pub shown : (b : PadBad) → outcome pad entry ≡ Refuses b → shows w now true e ≡ pad_refuses v n b
-  pub leaves : (b : PadBad) → outcome pad entry ≡ Refuses b → (happened w (event_at w now true e) ≡ x) × (kept_happened w ks (event_at w now true e) ≡ js)
+  pub shown : (b : PadBad) → outcome pad entry ≡ Refuses b → shows w ks now true e ≡ pad_refuses v n b
+  pub leaves : (b : PadBad) → outcome pad entry ≡ Refuses b → (happened w (event_at w ks now true e) ≡ x) × (kept_happened w ks e (event_at w ks now true e) ≡ js)
   pub room : (k : ℕ) → no_room e (bad.JournalFull k) ≡ Some (pad_refuses v n (bad.JournalFull k))
   pub adds : record_at w now e ≡ record_in (outcome pad entry)
   pub after : (rs : List Record) → journal_after rs w now true e ≡ behind rs (record_at w now e)
@@ -46,7 +46,7 @@ pub record Refusing (w x : WorldState) (ks js : Kepts) (pad : PadState) (now : �
   pub same : w.pad ≡ pad
   pub fulls : (rs : List Record) → full_for rs w now true e ≡ full_in rs w.pad (record_at w now e)
   pub left : (rs : List Record) → journal_full rs w now true e ≡ rs
-  pub full : (rs : List Record) → (happened w (overfull_at rs w now true e) ≡ x) × (kept_happened w ks (overfull_at rs w now true e) ≡ js)
+  pub full : (rs : List Record) → (happened w (overfull_at rs w now true e) ≡ x) × (kept_happened w ks e (overfull_at rs w now true e) ≡ js)
 
 module _ {D : Type 0} (told_by : D → Option Contents) (failures : D → ℕ) (stops_alone : D → Bool) (alone : Bool) (rs : List Record) where
   -- an event is refused by the pad
@@ -69,9 +69,9 @@ module _ {D : Type 0} (told_by : D → Option Contents) (failures : D → ℕ) (
             f.known,
             f.text,
             IsEvent true (sym (f.shown b h.0)) (ap (shows_full e) (f.fulls rs ∙ ap (full_in rs w.pad) u ∙ ap (λ p. full_in rs p None) f.same ∙ h.2)) (λ _. f.decides rs)
-                (subst (λ q. StandsFor told_by failures stops_alone alone q new (happened w (event_at w now true e)) (kept_happened w ks (event_at w now true e)))
+                (subst (λ q. StandsFor told_by failures stops_alone alone q new (happened w (event_at w ks now true e)) (kept_happened w ks e (event_at w ks now true e)))
                 (sym (f.after rs ∙ ap (behind rs) u))
-                (subst (λ y. StandsFor told_by failures stops_alone alone rs new y (kept_happened w ks (event_at w now true e))) (sym l.0)
+                (subst (λ y. StandsFor told_by failures stops_alone alone rs new y (kept_happened w ks e (event_at w ks now true e))) (sym l.0)
                 (subst (StandsFor told_by failures stops_alone alone rs new x) (sym l.1) (stands h.1)))),
           )
 
@@ -83,8 +83,8 @@ module _ {D : Type 0} (told_by : D → Option Contents) (failures : D → ℕ) (
         f.text,
         HasNoRoom true
             (ap (shows_full e) (f.fulls rs ∙ ap (full_in rs w.pad) f.adds ∙ ap (λ p. full_in rs p (record_in (outcome pad entry))) f.same ∙ h) ∙ f.room k) (λ _. f.decides rs)
-            (subst (λ q. StandsFor told_by failures stops_alone alone q new (happened w (overfull_at rs w now true e)) (kept_happened w ks (overfull_at rs w now true e))) (sym (f.left rs))
-            (subst (λ y. StandsFor told_by failures stops_alone alone rs new y (kept_happened w ks (overfull_at rs w now true e))) (sym (f.full rs).0)
+            (subst (λ q. StandsFor told_by failures stops_alone alone q new (happened w (overfull_at rs w now true e)) (kept_happened w ks e (overfull_at rs w now true e))) (sym (f.left rs))
+            (subst (λ y. StandsFor told_by failures stops_alone alone rs new y (kept_happened w ks e (overfull_at rs w now true e))) (sym (f.full rs).0)
             (subst (StandsFor told_by failures stops_alone alone rs new x) (sym (f.full rs).1) (stands m)))),
       )
       go (bad.Dead why) a = plain (bad.Dead why) a

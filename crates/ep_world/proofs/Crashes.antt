@@ -19,7 +19,7 @@ use Rattle.ep_history.specs.Entries.Answer.{CommitAnswer, StatusAnswer}
 use Rattle.ep_history.specs.Entries.Entry.{Accept, ReadStatus}
 use Rattle.ep_history.specs.Entries.Outcome.{Answers, Records}
 use Rattle.ep_history.specs.History.{head, head_doc, nop_by, step_revs}
-use Rattle.ep_history.specs.Kept.{KeptClient, kept_lost}
+use Rattle.ep_undo.specs.Undo.{UndoState, undo_lost}
 use Rattle.ep_history.specs.Machine.{MachineState, Turn, IsKeptState, IsOpenStep, IsStepAs, IsStep, IsThen, closed, journal_fault, keeping, open_record, reopening, settled, turn, turn_of}
 use Rattle.ep_history.specs.Machine.IsOpenStep.{Does, Lacks, Fails}
 use Rattle.ep_history.specs.Pad.{PadState, newest, reopened, with_nops, with_revs}
@@ -36,7 +36,7 @@ use Rattle.ep_history.proofs.Lists.{none_some, some_same}
 use Rattle.ep_history.proofs.Recorded.{accept-recorded}
 use Rattle.ep_history.proofs.Steps.{reopening-kept, settled-kept, step-kept}
 use Rattle.ep_schedule.specs.Headline.{first_sent, next_up}
-use Rattle.ep_schedule.specs.Kepts.{Kepts}
+use Rattle.ep_world.specs.Kepts.{Kepts}
 use Rattle.ep_schedule.specs.World.{Name, Actor as AnActor, Conn, Member as AMember, Message, Reason as AReason, WorldState, crashed, cut_off, reason, stop_as, stop_by, stop_conn, stopped as stops}
 use Rattle.ep_schedule.specs.World.Reason.{Refused}
 use Rattle.ep_schedule.specs.World.Actor.{Nobody, Guest, Named}
@@ -304,7 +304,7 @@ spelled msg x c e h = (sent-read x msg c e h).change
 
 -- ---- who is cut off
 
-pub cut-member : (a : AnActor) (k : KeptClient) → option_map kept_cut_off (actor_of a k) ≡ actor_of (cut_off a) (kept_lost k)
+pub cut-member : (a : AnActor) (k : UndoState) → option_map kept_cut_off (actor_of a k) ≡ actor_of (cut_off a) (undo_lost k)
 cut-member Nobody k = refl
 cut-member (Guest c) k = refl
 cut-member (Named m) k = refl
@@ -328,7 +328,7 @@ takes-conn c (Some x) new t =
     pair : (s t : Session) (a b : Sent) → s ≡ t → a ≡ b → both s a ≡ both t b
     pair s t a b e f = ap (λ y. both y a) e ∙ ap (both t) f
 
-pub takes-one : (a : AnActor) (k : KeptClient) (x : Option (Session × Sent)) (old new : Actor) → actor_of a k ≡ Some old → TakesFirst old x new → TakesOne a x old new
+pub takes-one : (a : AnActor) (k : UndoState) (x : Option (Session × Sent)) (old new : Actor) → actor_of a k ≡ Some old → TakesFirst old x new → TakesOne a x old new
 takes-one a k x old new e t = go a e
   where
     guest : (c : Conn) (new : Actor) → TakesFirst (actor.Guest (conn_of c)) x new → TakesOne (Guest c) x (actor.Guest (conn_of c)) new
@@ -341,7 +341,7 @@ takes-one a k x old new e t = go a e
         let h = takes-conn m.conn x t.0 t.1 in
         record {
           first = h.0;
-          cut = ap (λ z. kept_cut_off (actor.Named z)) t.2 ∙ ap (λ c. actor.Named (record { client = kept_lost k; birth = m.birth; conn = c; earlier = None })) h.1;
+          cut = ap (λ z. kept_cut_off (actor.Named z)) t.2 ∙ ap (λ c. actor.Named (record { client = undo_lost k; birth = m.birth; conn = c; earlier = None })) h.1;
         }
 
     go : (a : AnActor) → actor_of a k ≡ Some old → TakesOne a x old new
@@ -749,11 +749,11 @@ module _ {D : Type 0} (told_by : D → Option Contents) (failures : D → ℕ) (
   crashed-stands : (qs : List Record) (old new : World D) (w v : WorldState) (ks : Kepts) → StandsFor told_by failures stops_alone alone rs old w ks
       → IsAt told_by failures stops_alone alone qs new.machine (reopened v.pad) → v.id ≡ w.id
       → v.actors ≡ w.actors → new.id ≡ old.id → ((q : Name) → found new.actors q ≡ option_map kept_cut_off (found old.actors q))
-      → StandsFor told_by failures stops_alone alone qs new (crashed v) (λ n. kept_lost (ks n))
+      → StandsFor told_by failures stops_alone alone qs new (crashed v) (λ n. undo_lost (ks n))
   crashed-stands qs old new w v ks s m j e i cut = record {
     machine = m;
     id = i ∙ s.id ∙ sym j;
-    actors = λ q. cut q ∙ ap (option_map kept_cut_off) (s.actors q) ∙ cut-member (w.actors q) (ks q) ∙ ap (λ f. actor_of (cut_off (f q)) (kept_lost (ks q))) (sym e);
+    actors = λ q. cut q ∙ ap (option_map kept_cut_off) (s.actors q) ∙ cut-member (w.actors q) (ks q) ∙ ap (λ f. actor_of (cut_off (f q)) (undo_lost (ks q))) (sym e);
   }
 
   -- what an opening shows
@@ -783,8 +783,8 @@ module _ {D : Type 0} (told_by : D → Option Contents) (failures : D → ℕ) (
       alike = unopened-alike qs v.pad w.pad l ∙ ap (λ q. unopened q w.pad) left
 
       stands : (ps : List Record) → IsAt told_by failures stops_alone alone ps new.machine (reopened v.pad)
-          → StandsFor told_by failures stops_alone alone ps new (crashed (stops w now (stopped_name at) kept)) (λ n. kept_lost (ks n))
-      stands ps m = subst (λ x. StandsFor told_by failures stops_alone alone ps new (crashed x) (λ n. kept_lost (ks n))) is (crashed-stands ps old new w v ks s m j e i cut)
+          → StandsFor told_by failures stops_alone alone ps new (crashed (stops w now (stopped_name at) kept)) (λ n. undo_lost (ks n))
+      stands ps m = subst (λ x. StandsFor told_by failures stops_alone alone ps new (crashed x) (λ n. undo_lost (ks n))) is (crashed-stands ps old new w v ks s m j e i cut)
 
       opened : (unopened qs v.pad ≡ None) × IsOpenAt told_by failures stops_alone alone (qs ++ opening v.pad ∷ []) mid (reopened v.pad) → (r : Result Shown WorldBad)
           → IsOpening (name-of at) (qs ++ opening v.pad ∷ []) (reopened v.pad) new.machine r → Comes told_by failures stops_alone alone rs w ks now (told.Stop at) new r
@@ -795,7 +795,7 @@ module _ {D : Type 0} (told_by : D → Option Contents) (failures : D → ℕ) (
             (h.0 ∙ ap (shows_start_if (name-of at) (reopened v.pad)) (open-full told_by failures stops_alone alone (qs ++ opening v.pad ∷ []) mid (reopened v.pad) None x.1)
             ∙ ap (λ (z : WorldState). shows_opening (crashed z).pad) is)
             (ap (shows_full (told.Stop at)) (sym alike ∙ x.0)) d
-            (subst (λ q. StandsFor told_by failures stops_alone alone q new (crashed (stops w now (stopped_name at) kept)) (λ n. kept_lost (ks n)))
+            (subst (λ q. StandsFor told_by failures stops_alone alone q new (crashed (stops w now (stopped_name at) kept)) (λ n. undo_lost (ks n)))
             (ap (λ q. q ++ opening v.pad ∷ []) left ∙ ap (λ q. journal_left rs w now kept at ++ q ∷ []) o) (stands (qs ++ opening v.pad ∷ []) h.1)),
       )
       opened x (Err b) f = failed-comes w ks now (told.Stop at) new b f
@@ -809,7 +809,7 @@ module _ {D : Type 0} (told_by : D → Option Contents) (failures : D → ℕ) (
             refl,
             HasNoRoom kept
                 (ap (shows_full (told.Stop at)) (sym alike ∙ x.1) ∙ refuses-stop at (bad.JournalFull x.0) ∙ ap Some (sym (h.0 ∙ ap (shows_start_if (name-of at) (reopened v.pad)) same))) d
-                (subst (λ q. StandsFor told_by failures stops_alone alone q new (crashed (stops w now (stopped_name at) kept)) (λ n. kept_lost (ks n))) left (stands qs h.1)),
+                (subst (λ q. StandsFor told_by failures stops_alone alone q new (crashed (stops w now (stopped_name at) kept)) (λ n. undo_lost (ks n))) left (stands qs h.1)),
           )
       shut x (Err b) f = failed-comes w ks now (told.Stop at) new b f
 

@@ -31,7 +31,7 @@ use Rattle.ep_pad_file.specs.Standing.{size}
 use Rattle.ep_pad_state.specs.Answering.{status_of}
 use Rattle.ep_pad_state.specs.declared.answers.PadStatus.{PadStatus}
 use Rattle.ep_schedule.specs.Headline.{next_up}
-use Rattle.ep_schedule.specs.Kepts.{Kepts}
+use Rattle.ep_world.specs.Kepts.{Kepts}
 use Rattle.ep_schedule.specs.World.{Name, Message, WorldState}
 use Rattle.ep_event.specs.declared.event.Event.TheVariants as told
 use Rattle.ep_event.specs.declared.event.StopAt.{StopAt}

@@ -8,7 +8,7 @@ use Rattle.ep_history.specs.Entries.Entry.{Login}
 use Rattle.ep_history.specs.Entries.Outcome.{Refuses, Answers, Records}
 use Rattle.ep_history.specs.Entry.{opened}
 use Rattle.ep_history.specs.History.{head, head_doc}
-use Rattle.ep_history.specs.Kept.{KeptClient, kept_started}
+use Rattle.ep_history.specs.Kept.{kept_started}
 use Rattle.ep_history.specs.Pad.{PadState, newest, next_session, with_session}
 use Rattle.ep_history.specs.Readings.{Welcome as AWelcome, welcome}
 use Rattle.ep_history.specs.Records.{create_record}
@@ -18,7 +18,8 @@ use Rattle.ep_history.proofs.Lists.{some_same}
 use Rattle.ep_schedule.specs.World.{Name, Actor as AnActor, WorldState, grant_of, login_as, login_if, new_conn, new_member, visit_as, visit_if}
 use Rattle.ep_schedule.specs.World.Actor.{Nobody, Guest, Named}
 use Rattle.ep_schedule.specs.World.Event.{Login as AskedLogin}
-use Rattle.ep_schedule.specs.Kepts.{Kepts, kept_happens, kept_login, kept_login_if}
+use Rattle.ep_undo.specs.Undo.{UndoState, undo_started}
+use Rattle.ep_world.specs.Kepts.{Kepts, kept_happens, kept_login, kept_login_if}
 use Rattle.ep_pad_state.specs.Answering.{welcome_of}
 use Rattle.ep_pad_state.specs.declared.answers.Welcome.{Welcome}
 use Rattle.ep_event.specs.declared.event.Event.TheVariants as told
@@ -102,12 +103,12 @@ not-client (Named m) e w now n r f h = absurd cc
 not-test : (b : Bool) → b ≡ false → not b ≡ true
 not-test b e = ap not e
 
-pub guest-known : (a : AnActor) (k : KeptClient) → is_a_guest (actor_of a k) ≡ is_guest a
+pub guest-known : (a : AnActor) (k : UndoState) → is_a_guest (actor_of a k) ≡ is_guest a
 guest-known Nobody k = refl
 guest-known (Guest c) k = refl
 guest-known (Named m) k = refl
 
-pub client-known : (a : AnActor) (k : KeptClient) → is_a_client (actor_of a k) ≡ is_client a
+pub client-known : (a : AnActor) (k : UndoState) → is_a_client (actor_of a k) ≡ is_client a
 client-known Nobody k = refl
 client-known (Guest c) k = refl
 client-known (Named m) k = refl
@@ -154,9 +155,9 @@ module _ {D : Type 0} (told_by : D → Option Contents) (failures : D → ℕ) (
       let session = ap (λ (y : AWelcome). y.session) q in
       let rev = ap (λ (y : AWelcome). y.rev) q in
       let m = subst (IsAt told_by failures stops_alone alone (journal_after rs w now true (told.Login n)) new.machine) u.pad a.1 in
-      let k = kept_started (head_doc (newest there)) (head (newest there)) (next_session there) in
+      let k = undo_started (kept_started (head_doc (newest there)) (head (newest there)) (next_session there)) in
       let is : Some (actor.Named (member_of (new_member there (next_session there)) k)) ≡ Some (actor.Named (started_member x)) =
-      ap (λ (y : AWelcome). Some (actor.Named (record { client = kept_started y.doc y.rev y.session; birth = y.birth; conn = kept_new y.session y.rev; earlier = None }))) (sym q) in (
+      ap (λ (y : AWelcome). Some (actor.Named (record { client = undo_started (kept_started y.doc y.rev y.session); birth = y.birth; conn = kept_new y.session y.rev; earlier = None }))) (sym q) in (
         not-test (is_guest (w.actors n)) i,
         refl,
         IsEvent true

@@ -10,7 +10,7 @@ use Rattle.ep_pad.specs.Standing.{opening}
 use Rattle.ep_schedule.specs.Headline.{next_up}
 use Rattle.ep_schedule.specs.World.{Message, WorldState}
 use Rattle.ep_event.specs.declared.event.Event.{Event}
-use Rattle.ep_event.specs.declared.event.Event.TheVariants.{Create, SetText, Delete, Login, Guest, Edit, Submit, Inject, Take, Late, Push, Hear, Lose, Resume, Stop}
+use Rattle.ep_event.specs.declared.event.Event.TheVariants.{Create, SetText, Delete, Login, Guest, Edit, Submit, Inject, Take, Late, Push, Hear, Lose, Resume, Stop, Undo, Redo}
 use Rattle.ep_world.specs.Journal.{full_by, full_for, full_in, full_take, is_brought, is_shut, journal_left, machine_of, record_at, record_taken, unopened}
 use Rattle.ep_world.proofs.Calls.{journal-full}
 
@@ -39,6 +39,8 @@ full_bytes rs w now kept Delete b h = in-bytes rs w.pad (record_at w now Delete)
 full_bytes rs w now kept (Login n) b h = in-bytes rs w.pad (record_at w now (Login n)) b h
 full_bytes rs w now kept (Guest n read_only) b h = in-bytes rs w.pad (record_at w now (Guest n read_only)) b h
 full_bytes rs w now kept (Edit n e) b h = none_some h
+full_bytes rs w now kept (Undo n) b h = none_some h
+full_bytes rs w now kept (Redo n) b h = none_some h
 full_bytes rs w now kept (Submit n) b h = none_some h
 full_bytes rs w now kept (Inject n base change) b h = none_some h
 full_bytes rs w now kept (Take n) b h = take-bytes rs w.pad now (next_up (w.actors n)) b h

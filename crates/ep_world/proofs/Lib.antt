@@ -9,6 +9,8 @@ pub mod Entered
 pub mod Conns
 pub mod Takes
 pub mod Begin
+pub mod Remaking
+pub mod Stacked
 pub mod Leading
 pub mod Crashes
 pub mod Pushes

@@ -24,7 +24,7 @@ use Rattle.ep_history.specs.declared.seat.Why.TheVariants.{Replaced, Deleted, Re
 use Rattle.ep_history.proofs.Lists.{drop-next, none_some, some_same}
 use Rattle.ep_history.proofs.Refused.{none-of}
 use Rattle.ep_history.proofs.Steps.{dead-live}
-use Rattle.ep_schedule.specs.Kepts.{Kepts}
+use Rattle.ep_world.specs.Kepts.{Kepts}
 use Rattle.ep_schedule.specs.World.{Name, Conn, Member as AMember, WorldState, closing, push_as, push_by, push_login, push_next, push_turn, put, sending, spending, with_actor, with_conn}
 use Rattle.ep_schedule.specs.World.Actor.{Named}
 use Rattle.ep_schedule.specs.World.Word.{UserDup, PadDeleted}
@@ -342,7 +342,7 @@ module _ {D : Type 0} (told_by : D → Option Contents) (failures : D → ℕ) (
       let f = answered-once told_by failures stops_alone alone rs old new pad (Fetch c.session c.sent c.nops) (Err (bad.Dead why)) a (n.0, n.1, n.2, n.3) in
       (IsDead why f.0 pq dq, f.1)
 
-  pub tells-member : (machine : Held D) (pad : PadState) (m : Member) (d : KeptConn) (r : Result Pushed WorldBad) → (m.client.connected && not m.conn.closed) ≡ true
+  pub tells-member : (machine : Held D) (pad : PadState) (m : Member) (d : KeptConn) (r : Result Pushed WorldBad) → (m.client.client.connected && not m.conn.closed) ≡ true
       → IfOk r (TellsOf told_by failures stops_alone alone rs pad m.conn machine d) → IfOk r (TellsMember told_by failures stops_alone alone rs pad m machine (record m { conn = d }))
   tells-member machine pad m d (Ok p) e h = (subst (λ b. TellsIf b pad m.conn d p) (sym e) h.0, refl, h.1)
   tells-member machine pad m d (Err b) e h = tt
@@ -395,12 +395,12 @@ module _ {D : Type 0} (told_by : D → Option Contents) (failures : D → ℕ) (
       h : TellsMember told_by failures stops_alone alone rs w.pad m new.machine m' p
       h = tells w.pad stands.machine
 
-      same : (m.client.connected && not m.conn.closed) ≡ may w n x
-      same = ap (λ (y : Member). y.client.connected && not y.conn.closed) z.2 ∙ ap (λ b. b && not x.conn.closed) (keeps w ks n x run z.1).connected
+      same : (m.client.client.connected && not m.conn.closed) ≡ may w n x
+      same = ap (λ (y : Member). y.client.client.connected && not y.conn.closed) z.2 ∙ ap (λ b. b && not x.conn.closed) (keeps w ks n x run z.1).connected
 
       told-so : TellsIf (may w n x) w.pad (conn_of x.conn) m'.conn p
       told-so = subst (λ b. TellsIf b w.pad (conn_of x.conn) m'.conn p) same
-          (subst (λ c. TellsIf (m.client.connected && not m.conn.closed) w.pad c m'.conn p) (ap (λ (y : Member). y.conn) z.2) h.0)
+          (subst (λ c. TellsIf (m.client.client.connected && not m.conn.closed) w.pad c m'.conn p) (ap (λ (y : Member). y.conn) z.2) h.0)
 
       puts : PutsActor t.between n (actor.Named (record (member_of x (ks n)) { conn = m'.conn })) new.actors
       puts = subst (λ y. PutsActor t.between n (actor.Named y) new.actors) (h.1 ∙ ap (λ (y : Member). record y { conn = m'.conn }) z.2) t.seated

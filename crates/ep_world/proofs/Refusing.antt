@@ -12,7 +12,7 @@ use Rattle.ep_history.specs.declared.seat.Seat.{Seat}
 use Rattle.ep_history.specs.declared.seat.Why.{Why}
 use Rattle.ep_history.proofs.Lists.{none_some, some_same}
 use Rattle.ep_schedule.specs.Headline.{after, first_sent}
-use Rattle.ep_schedule.specs.Kepts.{Kepts}
+use Rattle.ep_world.specs.Kepts.{Kepts}
 use Rattle.ep_schedule.specs.World.{Name, Actor, Conn, Event, Member, Message, Reason, WorldState, late_as, late_by, late_first, late_of, pad_reason, reason, run, start, with_earlier, with_up}
 use Rattle.ep_schedule.specs.World.Actor.{Nobody, Guest, Named}
 use Rattle.ep_schedule.specs.World.Reason.{Unread, Refused}

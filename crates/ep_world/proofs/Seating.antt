@@ -2,11 +2,11 @@
 use Rattle.std.proofs.Common.{◌≡◌, ℕ, Bool, true, false, List, Option, Some, None, ◌⊎◌, inl, inr, if◌then◌else◌, refl, sym, ap, ◌∙◌}
 use Rattle.ep_units.specs.Text.{text_eq}
 use Rattle.ep_outside.specs.Disk.{Contents}
-use Rattle.ep_history.specs.Kept.{KeptClient}
 use Rattle.ep_history.proofs.Births.{decide-name}
 use Rattle.ep_schedule.specs.World.{Name, Conn, Member as AMember, Actor as AnActor, WorldState, put}
 use Rattle.ep_schedule.specs.World.Actor.{Nobody, Guest, Named}
-use Rattle.ep_schedule.specs.Kepts.{Kepts, kept_put}
+use Rattle.ep_undo.specs.Undo.{UndoState}
+use Rattle.ep_world.specs.Kepts.{Kepts, kept_put}
 use Rattle.ep_world.specs.declared.actors.Actor.{Actor}
 use Rattle.ep_world.specs.declared.actors.Actor.TheVariants as actor
 use Rattle.ep_world.specs.declared.actors.Slot.{Slot}
@@ -20,22 +20,22 @@ use Rattle.ep_history.specs.declared.record.Record.{Record}
 
 -- ---- whom a place stands for
 
-pub is-named : (a : AnActor) (k : KeptClient) (m : Member) → actor_of a k ≡ Some (actor.Named m) → (x : AMember) × (a ≡ Named x) × (m ≡ member_of x k)
+pub is-named : (a : AnActor) (k : UndoState) (m : Member) → actor_of a k ≡ Some (actor.Named m) → (x : AMember) × (a ≡ Named x) × (m ≡ member_of x k)
 is-named Nobody k m e = absurd cc
 is-named (Guest c) k m e = absurd cc
 is-named (Named x) k m e = (x, refl, sym cc)
 
-pub is-guest : (a : AnActor) (k : KeptClient) (c : KeptConn) → actor_of a k ≡ Some (actor.Guest c) → (x : Conn) × (a ≡ Guest x) × (c ≡ conn_of x)
+pub is-guest : (a : AnActor) (k : UndoState) (c : KeptConn) → actor_of a k ≡ Some (actor.Guest c) → (x : Conn) × (a ≡ Guest x) × (c ≡ conn_of x)
 is-guest Nobody k c e = absurd cc
 is-guest (Guest x) k c e = (x, refl, sym cc)
 is-guest (Named x) k c e = absurd cc
 
-pub is-nobody : (a : AnActor) (k : KeptClient) → actor_of a k ≡ None → a ≡ Nobody
+pub is-nobody : (a : AnActor) (k : UndoState) → actor_of a k ≡ None → a ≡ Nobody
 is-nobody Nobody k e = refl
 is-nobody (Guest x) k e = absurd cc
 is-nobody (Named x) k e = absurd cc
 
-pub no-client : (a : AnActor) (k : KeptClient) → IsNoClient (actor_of a k) → is_client a ≡ false
+pub no-client : (a : AnActor) (k : UndoState) → IsNoClient (actor_of a k) → is_client a ≡ false
 no-client Nobody k e = refl
 no-client (Guest x) k e = refl
 no-client (Named x) k e = absurd e
@@ -66,7 +66,7 @@ put-back old mid new n a w e p q = go (decide-name q n)
 -- ---- a name stands for another
 
 -- the name stands for this one now, kept like this
-pub put-actors : (mid new : List Slot) (w : WorldState) (ks : Kepts) (n : Name) (x : AnActor) (k : KeptClient) (a : Actor)
+pub put-actors : (mid new : List Slot) (w : WorldState) (ks : Kepts) (n : Name) (x : AnActor) (k : UndoState) (a : Actor)
     → ((q : Name) → text_eq q n ≡ false → found mid q ≡ actor_of (w.actors q) (ks q))
     → ((q : Name) → found new q ≡ (if text_eq q n then Some a else found mid q)) → actor_of x k ≡ Some a
     → (q : Name) → found new q ≡ actor_of (put w.actors n x q) (kept_put ks n k q)

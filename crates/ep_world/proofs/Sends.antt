@@ -3,7 +3,7 @@ use Rattle.std.proofs.Common.{◌≡◌, ℕ, suc, Bool, true, false, ◌||◌, 
 use Rattle.std.specs.Prelude.{IfOk, nat_lt}
 use Rattle.ep_units.specs.Text.{text_eq}
 use Rattle.ep_units.specs.declared.session.Session.{Session}
-use Rattle.ep_cs.specs.Edit.{identity}
+use Rattle.ep_cs.specs.Edit.{Edit, identity}
 use Rattle.ep_cs.specs.EditFits.{is_edit}
 use Rattle.ep_cs.specs.Fits.{is_identity}
 use Rattle.ep_history.specs.Client.{submission, submitted_doc}
@@ -20,12 +20,15 @@ use Rattle.ep_cs.specs.EditFits.{fits}
 use Rattle.ep_csread.specs.declared.bad.ReadBad.{ReadBad}
 use Rattle.ep_invert.specs.declared.bad.SpliceBad.{SpliceBad}
 use Rattle.ep_history.specs.Client.{ClientState, edited, submitted}
-use Rattle.ep_history.specs.Kept.{KeptClient, Keeps, kept_edited, kept_submission, kept_submitted}
+use Rattle.ep_history.specs.Kept.{KeptClient, Keeps, kept_submission, kept_submitted}
 use Rattle.ep_history.specs.Pad.{birth_at}
 use Rattle.ep_history.specs.declared.submission.Submission.{Submission}
 use Rattle.ep_schedule.specs.World.{Name, Member as AMember, Message, WorldState, edit_by, inject_by, injected, sent_up, submit_as, submit_by, submit_if, with_actor, with_client, with_up}
 use Rattle.ep_schedule.specs.World.Actor.{Guest, Named}
-use Rattle.ep_schedule.specs.Kepts.{IsSameSubmission, Kepts, kept_after_submit, kept_edit, kept_put, kept_submit}
+use Rattle.ep_schedule.specs.World.Event.{Edits}
+use Rattle.ep_schedule.specs.Kepts.{IsSameSubmission}
+use Rattle.ep_undo.specs.Undo.{UndoState, redone_by, top, undo_edited, undone_by, with_client as with_kept}
+use Rattle.ep_world.specs.Kepts.{Kepts, kept_after_submit, kept_edit, kept_put, kept_remake, kept_submit}
 use Rattle.ep_event.specs.declared.event.Event.TheVariants as told
 use Rattle.ep_event.specs.declared.event.Local.{Local}
 use Rattle.ep_event.specs.declared.shown.Shown.{Shown}
@@ -39,10 +42,12 @@ use Rattle.ep_world.specs.declared.world.World.{World}
 use Rattle.ep_world.specs.Actors.{IsSame, IsWithout, PutsActor, actor_of, found, member_of}
 use Rattle.ep_world.specs.Conns.{KeptConn, conn_of, kept_sends, sent_of}
 use Rattle.ep_local.specs.Local.{is_local_text, local_bad, local_edit}
-use Rattle.ep_local.specs.Makes.{EditsView}
-use Rattle.ep_world.specs.Events.{edit_at, edit_if, event_at, happened, is_client, is_guest, kept_happened, of_client, view_of}
+use Rattle.ep_world.specs.declared.undoing.Remake.{Remake}
+use Rattle.ep_world.specs.declared.undoing.Remake.TheVariants as remake
+use Rattle.ep_world.specs.Undoing.{EditsView, FitsIf, Remakes, remade, remade_verb, remake_event, to_make}
+use Rattle.ep_world.specs.Events.{edit_at, edit_if, event_at, happened, has_text, is_client, is_guest, is_known, kept_happened, made_top, of_client, view_of}
 use Rattle.ep_world.specs.Members.{SubmitsOf, SubmitsUp}
-use Rattle.ep_world.specs.Shows.{shows, shows_edit, shows_edited, shows_sent, shows_submit, shows_submitted, verb_of}
+use Rattle.ep_world.specs.Shows.{shows, shows_edit, shows_edited, shows_remade, shows_sent, shows_submit, shows_submitted, verb_of}
 use Rattle.ep_world.specs.Standing.{Comes, IsAt, IsPlayed, IsRun, StandsFor}
 use Rattle.ep_world.specs.Standing.IsPlayed.{IsEvent}
 use Rattle.ep_world.proofs.Leading.{sent}
@@ -90,7 +95,7 @@ module _ {D : Type 0} (told_by : D → Option Contents) (failures : D → ℕ) (
 
   -- ---- edits
 
-  pub edits-view : (old new : World D) (w : WorldState) (ks : Kepts) (n : Name) (now : ℕ) (e : Local) (m : Member) (k : KeptClient) (bad : Option SpliceBad) (s : Shown) → IsRun w ks
+  pub edits-view : (old new : World D) (w : WorldState) (ks : Kepts) (n : Name) (now : ℕ) (e : Local) (m : Member) (k : UndoState) (bad : Option SpliceBad) (s : Shown) → IsRun w ks
       → StandsFor told_by failures stops_alone alone rs old w ks → new.machine ≡ old.machine → new.id ≡ old.id → IsTurn old.actors n m (record m { client = k }) new.actors → is_local_text e ≡ true
       → EditsView e m.client k bad → s ≡ shows_edited (verb_of e) n bad → Comes told_by failures stops_alone alone rs w ks now (told.Edit n e) new (Ok s)
   edits-view old new w ks n now e m k bad s r st machine id turn text z shows-it =
@@ -102,46 +107,135 @@ module _ {D : Type 0} (told_by : D → Option Contents) (failures : D → ℕ) (
       x : AMember
       x = t.member
 
-      q : Keeps (birth_at w.pad x.birth) x.client (ks n)
+      q : Keeps (birth_at w.pad x.birth) x.client (ks n).client
       q = keeps w ks n x r t.named
 
       client : m.client ≡ ks n
       client = ap (λ (y : Member). y.client) t.is
 
-      v : m.client.view ≡ view_of w.pad x
-      v = ap (λ (y : KeptClient). y.view) client ∙ q.view
+      v : m.client.client.view ≡ view_of w.pad x
+      v = ap (λ (y : UndoState). y.client.view) client ∙ q.view
 
       is : Option SpliceBad → Type 0
       is b = IsPlayed told_by failures stops_alone alone rs w ks now (told.Edit n e) new (shows_edited (verb_of e) n b)
 
-      showing : (b : Option SpliceBad) → local_bad e (view_of w.pad x) ≡ b → shows_edited (verb_of e) n b ≡ shows w now true (told.Edit n e)
+      showing : (b : Option SpliceBad) → local_bad e (view_of w.pad x) ≡ b → shows_edited (verb_of e) n b ≡ shows w ks now true (told.Edit n e)
       showing b h = sym (ap (of_client (shown.Nothing (verb_of e) n) (shows_edit w n e)) t.named ∙ ap (shows_edited (verb_of e) n) h)
 
-      at : (b : Option SpliceBad) → local_bad e (view_of w.pad x) ≡ b → event_at w now true (told.Edit n e) ≡ edit_if n e (view_of w.pad x) b
+      at : (b : Option SpliceBad) → local_bad e (view_of w.pad x) ≡ b → event_at w ks now true (told.Edit n e) ≡ edit_if n e (view_of w.pad x) b
       at b h = ap (of_client None (edit_at w n e)) t.named ∙ ap (edit_if n e (view_of w.pad x)) h
 
       go : (b : Option SpliceBad) → EditsView e m.client k b → is b
       go (Some why) (h, same) =
           let l = subst (λ d. local_bad e d ≡ Some why) v h in
           IsEvent true (showing (Some why) l) refl (λ _. tt)
-          (subst (λ o. StandsFor told_by failures stops_alone alone rs new (happened w o) (kept_happened w ks o)) (sym (at (Some why) l))
-          (t.stays (ap (λ (y : KeptClient). record m { client = y }) same)))
+          (subst (λ o. StandsFor told_by failures stops_alone alone rs new (happened w o) (kept_happened w ks (told.Edit n e) o)) (sym (at (Some why) l))
+          (t.stays (ap (λ (y : UndoState). record m { client = y }) same)))
       go None (h, fit, made) =
           let l = subst (λ d. local_bad e d ≡ None) v h in
           let le = local_edit e (view_of w.pad x) in
           let f : fits le (view_of w.pad x) ≡ true = subst (λ d. fits (local_edit e d) d ≡ true) v fit in
           let y = with_client x (edited le x.client) in
-          let j = kept_edited le (ks n) in
+          let j = undo_edited le (ks n) in
           let is-world : edit_by w n le (w.actors n) ≡ with_actor w n (Named y) =
           ap (edit_by w n le) t.named ∙ ap (λ b. if b then with_actor w n (Named y) else w) f in
           let is-kept : kept_edit ks n le (w.actors n) ≡ kept_put ks n j =
           ap (kept_edit ks n le) t.named ∙ ap (λ b. if b then kept_put ks n j else ks) (subst (λ d. fits le d ≡ true) (sym q.view) f) in
           let is-member : record m { client = k } ≡ member_of y j =
-          ap (λ (i : KeptClient). record m { client = i }) (made ∙ ap₂ kept_edited (ap (local_edit e) v) client)
+          ap (λ (i : UndoState). record m { client = i }) (made ∙ ap₂ undo_edited (ap (local_edit e) v) client)
           ∙ ap (λ (i : Member). record i { client = j }) t.is in
           IsEvent true (showing None l) refl (λ _. tt)
-          (subst (λ o. StandsFor told_by failures stops_alone alone rs new (happened w o) (kept_happened w ks o)) (sym (at None l))
+          (subst (λ o. StandsFor told_by failures stops_alone alone rs new (happened w o) (kept_happened w ks (told.Edit n e) o)) (sym (at None l))
           (stands-as new _ _ _ _ is-world is-kept (t.steps (with_actor w n (Named y)) y j refl refl refl is-member)))
+
+  -- ---- undo and redo
+
+  pub remakes : (old new : World D) (w : WorldState) (ks : Kepts) (n : Name) (now : ℕ) (rm : Remake) (m m' : Member) (s : Shown) → IsRun w ks
+      → StandsFor told_by failures stops_alone alone rs old w ks → new.machine ≡ old.machine → new.id ≡ old.id → IsTurn old.actors n m m' new.actors
+      → Remakes rm n m m' s → Comes told_by failures stops_alone alone rs w ks now (remake_event rm n) new (Ok s)
+  remakes old new w ks n now rm m m' s r st machine id turn z =
+      (known rm ∙ ap is_client t.named, textful rm, go (to_make rm (ks n)) refl (subst (λ (k : UndoState). FitsIf (to_make rm k) k.client.view) client z.2.1))
+    where
+      t : Turns told_by failures stops_alone alone rs new w ks n m m'
+      t = turns told_by failures stops_alone alone rs old new w ks n m m' st machine id turn
+
+      x : AMember
+      x = t.member
+
+      q : Keeps (birth_at w.pad x.birth) x.client (ks n).client
+      q = keeps w ks n x r t.named
+
+      client : m.client ≡ ks n
+      client = ap (λ (y : Member). y.client) t.is
+
+      known : (rm : Remake) → is_known w (remake_event rm n) ≡ is_client (w.actors n)
+      known remake.Undo = refl
+      known remake.Redo = refl
+
+      textful : (rm : Remake) → has_text (remake_event rm n) ≡ true
+      textful remake.Undo = refl
+      textful remake.Redo = refl
+
+      -- what the client is behind it, and what is shown
+      behind-it : m' ≡ record m { client = remade rm (ks n) }
+      behind-it = z.1 ∙ ap (λ (k : UndoState). record m { client = k }) (z.2.0 ∙ ap (remade rm) client)
+
+      is-shown : s ≡ shows_remade (remade_verb rm) n (view_of w.pad x) (to_make rm (ks n))
+      is-shown =
+          z.2.2 ∙ ap (λ (k : UndoState). shows_remade (remade_verb rm) n k.client.view (to_make rm k)) client
+          ∙ ap (λ d. shows_remade (remade_verb rm) n d (to_make rm (ks n))) q.view
+
+      showing : (rm : Remake) → shows_remade (remade_verb rm) n (view_of w.pad x) (to_make rm (ks n)) ≡ shows w ks now true (remake_event rm n)
+      showing remake.Undo = sym (ap (of_client (shown.Nothing verb.Undo n) (λ m. shows_remade verb.Undo n (view_of w.pad m) (top (ks n).undos))) t.named)
+      showing remake.Redo = sym (ap (of_client (shown.Nothing verb.Redo n) (λ m. shows_remade verb.Redo n (view_of w.pad m) (top (ks n).redos))) t.named)
+
+      at : (rm : Remake) → event_at w ks now true (remake_event rm n) ≡ made_top n (to_make rm (ks n))
+      at remake.Undo = ap (of_client None (λ m. made_top n (top (ks n).undos))) t.named
+      at remake.Redo = ap (of_client None (λ m. made_top n (top (ks n).redos))) t.named
+
+      -- it is recorded nowhere, and needs no room
+      event : (rm : Remake) → s ≡ shows w ks now true (remake_event rm n)
+          → StandsFor told_by failures stops_alone alone rs new (happened w (event_at w ks now true (remake_event rm n))) (kept_happened w ks (remake_event rm n) (event_at w ks now true (remake_event rm n)))
+          → IsPlayed told_by failures stops_alone alone rs w ks now (remake_event rm n) new s
+      event remake.Undo is stands = IsEvent true is refl (λ _. tt) stands
+      event remake.Redo is stands = IsEvent true is refl (λ _. tt) stands
+
+      -- where there is nothing to make the client is as before
+      nothing : (rm : Remake) (k : UndoState) → to_make rm k ≡ None → remade rm k ≡ k
+      nothing remake.Undo k e = go k.undos e
+        where
+          go : (us : List Edit) → top us ≡ None → undone_by k us ≡ k
+          go [] e = refl
+          go (u ∷ us) e = none_some (sym e)
+      nothing remake.Redo k e = go k.redos e
+        where
+          go : (us : List Edit) → top us ≡ None → redone_by k us ≡ k
+          go [] e = refl
+          go (u ∷ us) e = none_some (sym e)
+
+      -- to the rules it is an edit
+      stepped : (rm : Remake) (u : Edit) → kept_happened w ks (remake_event rm n) (Some (Edits n u)) ≡ kept_remake (remade rm) ks n u (w.actors n)
+      stepped remake.Undo u = refl
+      stepped remake.Redo u = refl
+
+      stands : (o : Option Edit) → to_make rm (ks n) ≡ o → FitsIf o (ks n).client.view
+          → StandsFor told_by failures stops_alone alone rs new (happened w (made_top n o)) (kept_happened w ks (remake_event rm n) (made_top n o))
+      stands None e f =
+          t.stays (behind-it ∙ ap (λ (k : UndoState). record m { client = k }) (nothing rm (ks n) e ∙ sym client))
+      stands (Some u) e f =
+          let y = with_client x (edited u x.client) in
+          let j = remade rm (ks n) in
+          let is-world : edit_by w n u (w.actors n) ≡ with_actor w n (Named y) =
+          ap (edit_by w n u) t.named ∙ ap (λ b. if b then with_actor w n (Named y) else w) (subst (λ d. fits u d ≡ true) q.view f) in
+          let is-kept : kept_happened w ks (remake_event rm n) (Some (Edits n u)) ≡ kept_put ks n j =
+          stepped rm u ∙ ap (kept_remake (remade rm) ks n u) t.named ∙ ap (λ b. if b then kept_put ks n j else ks) f in
+          let is-member : m' ≡ member_of y j = behind-it ∙ ap (λ (i : Member). record i { client = j }) t.is in
+          stands-as new _ _ _ _ is-world is-kept (t.steps (with_actor w n (Named y)) y j refl refl refl is-member)
+
+      go : (o : Option Edit) → to_make rm (ks n) ≡ o → FitsIf o (ks n).client.view → IsPlayed told_by failures stops_alone alone rs w ks now (remake_event rm n) new s
+      go o e f =
+          event rm (is-shown ∙ showing rm)
+          (subst (λ o. StandsFor told_by failures stops_alone alone rs new (happened w o) (kept_happened w ks (remake_event rm n) o)) (sym (at rm ∙ ap (made_top n) e)) (stands o e f))
 
   -- ---- submissions
 
@@ -151,8 +245,8 @@ module _ {D : Type 0} (told_by : D → Option Contents) (failures : D → ℕ) (
   submits-up old new w ks n now m m' s r st machine id turn z = (
     ap is_client t.named,
     refl,
-    go (submitted (birth_at w.pad x.birth) x.client) (kept_submitted (ks n)) refl refl (sent w ks r n x t.named)
-        (subst (λ k. SubmitsOf n (kept_submitted k) m m' s) client z),
+    go (submitted (birth_at w.pad x.birth) x.client) (kept_submitted (ks n).client) refl refl (sent w ks r n x t.named)
+        (subst (λ (k : UndoState). SubmitsOf n (kept_submitted k.client) m m' s) client z),
   )
     where
       t : Turns told_by failures stops_alone alone rs new w ks n m m'
@@ -164,16 +258,16 @@ module _ {D : Type 0} (told_by : D → Option Contents) (failures : D → ℕ) (
       client : m.client ≡ ks n
       client = ap (λ (y : Member). y.client) t.is
 
-      showing : (o : Option ClientState) → submitted (birth_at w.pad x.birth) x.client ≡ o → shows w now true (told.Submit n) ≡ shows_submitted n o
+      showing : (o : Option ClientState) → submitted (birth_at w.pad x.birth) x.client ≡ o → shows w ks now true (told.Submit n) ≡ shows_submitted n o
       showing o h = ap (of_client (shown.Nothing verb.Submit n) (shows_submit w n)) t.named ∙ ap (shows_submitted n) h
 
       world : (o : Option ClientState) → submitted (birth_at w.pad x.birth) x.client ≡ o → submit_by w n (w.actors n) ≡ submit_if w n x o
       world o h = ap (submit_by w n) t.named ∙ ap (submit_if w n x) h
 
-      kepts : (p : Option KeptClient) → kept_submitted (ks n) ≡ p → kept_submit ks n (w.actors n) ≡ kept_after_submit ks n p
+      kepts : (p : Option KeptClient) → kept_submitted (ks n).client ≡ p → kept_submit ks n (w.actors n) ≡ kept_after_submit ks n p
       kepts p h = ap (kept_submit ks n) t.named ∙ ap (kept_after_submit ks n) h
 
-      go : (o : Option ClientState) (p : Option KeptClient) → submitted (birth_at w.pad x.birth) x.client ≡ o → kept_submitted (ks n) ≡ p → IsSameSubmission o p
+      go : (o : Option ClientState) (p : Option KeptClient) → submitted (birth_at w.pad x.birth) x.client ≡ o → kept_submitted (ks n).client ≡ p → IsSameSubmission o p
           → SubmitsOf n p m m' s → IsPlayed told_by failures stops_alone alone rs w ks now (told.Submit n) new s
       go None None a b al (same, is) = IsEvent true (is ∙ sym (showing None a)) refl (λ _. tt) (stands-as new _ _ _ _ (world None a) (kepts None b) (t.stays same))
       go None (Some k) a b al h = absurd al
@@ -182,22 +276,22 @@ module _ {D : Type 0} (told_by : D → Option Contents) (failures : D → ℕ) (
           IsEvent true (is ∙ sym (showing (Some c) a ∙ ap (shows_sent n) al)) refl (λ _. tt) (stands-as new _ _ _ _ (world (Some c) a) (kepts (Some k) b) (first x.client.sent))
         where
           edit : is_edit k.sent ≡ true
-          edit = submitted-edit (birth_at w.pad x.birth) x.client (ks n) k (sound w ks n x r t.named) (keeps w ks n x r t.named) b
+          edit = submitted-edit (birth_at w.pad x.birth) x.client (ks n).client k (sound w ks n x r t.named) (keeps w ks n x r t.named) b
 
           msg : ℕ → Message
           msg number = record { number = number; base = (kept_submission k).base; change = (kept_submission k).change; unread = None }
 
-          is-member : (number : ℕ) → m' ≡ member_of (sent_up x number c c.sent) k
+          is-member : (number : ℕ) → m' ≡ member_of (sent_up x number c c.sent) (with_kept (ks n) k)
           is-member number =
               made
-              ∙ ap (λ (y : Member). record y { client = k; conn = kept_sends (record { base = (kept_submission k).base; change = Ok (kept_submission k).change }) y.conn }) t.is
-              ∙ ap (λ (i : Sent). record (member_of x k) { conn = kept_sends i (conn_of x.conn) }) (sym (sent-edit (msg number) edit))
-              ∙ ap (λ (i : KeptConn). record (member_of x k) { conn = i }) (sym (conn-sends x.conn (msg number)))
-              ∙ sym (ap (λ (f : Option Submission). member_of (sent_up x number c f) k) al)
+              ∙ ap (λ (y : Member). record y { client = with_kept y.client k; conn = kept_sends (record { base = (kept_submission k).base; change = Ok (kept_submission k).change }) y.conn }) t.is
+              ∙ ap (λ (i : Sent). record (member_of x (with_kept (ks n) k)) { conn = kept_sends i (conn_of x.conn) }) (sym (sent-edit (msg number) edit))
+              ∙ ap (λ (i : KeptConn). record (member_of x (with_kept (ks n) k)) { conn = i }) (sym (conn-sends x.conn (msg number)))
+              ∙ sym (ap (λ (f : Option Submission). member_of (sent_up x number c f) (with_kept (ks n) k)) al)
 
-          first : (f : Option Submission) → StandsFor told_by failures stops_alone alone rs new (submit_as w n x f c) (kept_put ks n k)
-          first None = t.steps (submit_as w n x None c) (sent_up x (suc (length w.edits)) c c.sent) k refl refl refl (is-member (suc (length w.edits)))
-          first (Some f) = t.steps (submit_as w n x (Some f) c) (sent_up x x.number c c.sent) k refl refl refl (is-member x.number)
+          first : (f : Option Submission) → StandsFor told_by failures stops_alone alone rs new (submit_as w n x f c) (kept_put ks n (with_kept (ks n) k))
+          first None = t.steps (submit_as w n x None c) (sent_up x (suc (length w.edits)) c c.sent) (with_kept (ks n) k) refl refl refl (is-member (suc (length w.edits)))
+          first (Some f) = t.steps (submit_as w n x (Some f) c) (sent_up x x.number c c.sent) (with_kept (ks n) k) refl refl refl (is-member x.number)
 
   -- ---- guests
 

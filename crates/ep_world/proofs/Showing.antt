@@ -20,7 +20,9 @@ use Rattle.ep_history.specs.declared.pad_bad.PadBad.{PadBad}
 use Rattle.ep_history.specs.declared.pad_bad.PadBad.TheVariants as bad
 use Rattle.ep_history.specs.declared.submission.Submission.{Submission}
 use Rattle.ep_history.proofs.Lists.{none_some, some_same}
-use Rattle.ep_schedule.specs.Kepts.{KeepsActor, Kepts}
+use Rattle.ep_schedule.specs.Kepts.{KeepsActor}
+use Rattle.ep_undo.specs.Undo.{UndoState}
+use Rattle.ep_world.specs.Kepts.{Kepts}
 use Rattle.ep_schedule.specs.World.{Name, Actor as AnActor, Member as AMember, WorldState}
 use Rattle.ep_schedule.specs.World.Actor.{Nobody, Guest, Named}
 use Rattle.ep_pad.specs.Held.{Held}
@@ -64,7 +66,7 @@ no-view (Named m) k f e = none_some (sym e)
 pub client-of : (a : AnActor) (k : KeptClient) (m : AMember) → a ≡ Named m → of_client None (λ m. Some k) a ≡ Some k
 client-of a k m e = ap (of_client None (λ m. Some k)) e
 
-pub client-none : (a : AnActor) (k : KeptClient) → actor_of a k ≡ None → of_client None (λ m. Some k) a ≡ None
+pub client-none : (a : AnActor) (k : UndoState) → actor_of a k ≡ None → of_client None (λ m. Some k.client) a ≡ None
 client-none Nobody k e = refl
 client-none (Guest x) k e = refl
 client-none (Named m) k e = none_some (sym e)
@@ -72,7 +74,7 @@ client-none (Named m) k e = none_some (sym e)
 pub unshown : (w : WorldState) (ks : Kepts) (n : Name) (r : Result Shown WorldBad) → client_kept w ks n ≡ None → r ≡ Err world_bad.Unknown
     → ShowsClient (shows_view w n) r × ShowsClient (shows_view_marks w n) r
 unshown w ks n r e q =
-    (subst (λ o. ShowsClient o r) (sym (no-view (w.actors n) (ks n) _ e)) q, subst (λ o. ShowsClient o r) (sym (no-view (w.actors n) (ks n) _ e)) q)
+    (subst (λ o. ShowsClient o r) (sym (no-view (w.actors n) (ks n).client _ e)) q, subst (λ o. ShowsClient o r) (sym (no-view (w.actors n) (ks n).client _ e)) q)
 
 -- the client of a run
 record Sees (w : WorldState) (n : Name) (k : KeptClient) : Type 0 where
@@ -82,11 +84,11 @@ record Sees (w : WorldState) (n : Name) (k : KeptClient) : Type 0 where
 
 sees : (w : WorldState) (ks : Kepts) (n : Name) (k : KeptClient) → IsRun w ks → client_kept w ks n ≡ Some k → Sees w n k
 sees w ks n k run e =
-    let h = kept-named (w.actors n) (ks n) k e in
+    let h = kept-named (w.actors n) (ks n).client k e in
     record {
       member = h.0;
       is = h.1;
-      keeps = subst (λ x. Keeps (birth_at w.pad h.0.birth) h.0.client x) (sym h.2) (subst (λ a. KeepsActor w.pad a (ks n)) h.1 (kept w ks run n));
+      keeps = subst (λ x. Keeps (birth_at w.pad h.0.birth) h.0.client x) (sym h.2) (subst (λ a. KeepsActor w.pad a (ks n).client) h.1 (kept w ks run n));
     }
 
 pending-of : (s : Option Submission) → is_some (sent_session s) ≡ is_some s

@@ -63,7 +63,7 @@ unopened-alike rs p q e =
     ∙ ap (of q.limits (size (opening q))) (total-open rs (suc p.epoch) (suc q.epoch))
   where
     of : Limits → ℕ → ℕ → Option PadBad
-    of l n bytes = first_fault (fault_if (nat_lt most_bytes n) (bad.JournalFull n) ∷ fault_if (nat_lt l.journal bytes) (bad.JournalFull bytes) ∷ [])
+    of l n bytes = first_fault (fault_if (nat_lt most_bytes n) (bad.JournalFull n) ∷ fault_if (nat_lt (l.journal + l.openings) bytes) (bad.JournalFull bytes) ∷ [])
 
 pub opening-fault : (kept : Bool) (st : MachineState) (rs : List Record) (p : PadState) → (settled kept st).records ≡ rs → (settled kept st).pad.limits ≡ p.limits
     → journal_fault size (settled kept st) (open_record (settled kept st)) ≡ unopened rs p

@@ -18,7 +18,7 @@ use Rattle.ep_schedule.specs.World.Reason.{Unread, Refused}
 use Rattle.ep_history.specs.declared.pad_bad.PadBad.TheVariants as bad
 use Rattle.ep_history.specs.declared.seat.Why.TheVariants as end
 use Rattle.ep_schedule.specs.Headline.{first_sent, next_up}
-use Rattle.ep_schedule.specs.Kepts.{Kepts, kept_happens}
+use Rattle.ep_world.specs.Kepts.{Kepts, kept_happens}
 use Rattle.ep_event.specs.declared.event.Event.{Event as Told}
 use Rattle.ep_event.specs.declared.event.Event.TheVariants as told
 use Rattle.ep_event.specs.declared.shown.Ended.TheVariants as ended

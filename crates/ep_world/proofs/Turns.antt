@@ -2,14 +2,16 @@
 use Rattle.std.proofs.Common.{◌≡◌, ℕ, Bool, true, false, List, ◌∷◌, Option, Some, None, if◌then◌else◌, refl, sym, ap, ◌∙◌, subst}
 use Rattle.ep_units.specs.Text.{text_eq}
 use Rattle.ep_outside.specs.Disk.{Contents}
-use Rattle.ep_history.specs.Kept.{KeptClient, Keeps}
+use Rattle.ep_history.specs.Kept.{Keeps}
 use Rattle.ep_history.specs.Pad.{birth_at}
 use Rattle.ep_history.proofs.Client.{IsSound}
 use Rattle.ep_schedule.specs.World.{Name, Member as AMember, Actor as AnActor, WorldState, put, start}
 use Rattle.ep_schedule.proofs.Good.{IsGoodWorld, at-name}
 use Rattle.ep_schedule.proofs.Runs.{run-good, start-good}
 use Rattle.ep_schedule.specs.World.Actor.{Named}
-use Rattle.ep_schedule.specs.Kepts.{Kepts, KeepsActor, kept_put}
+use Rattle.ep_schedule.specs.Kepts.{KeepsActor}
+use Rattle.ep_undo.specs.Undo.{UndoState}
+use Rattle.ep_world.specs.Kepts.{Kepts, kept_put}
 use Rattle.ep_world.specs.declared.actors.Actor.TheVariants as actor
 use Rattle.ep_world.specs.declared.actors.Slot.{Slot}
 use Rattle.ep_world.specs.declared.member.Member.{Member}
@@ -22,8 +24,8 @@ use Rattle.ep_history.specs.declared.record.Record.{Record}
 
 -- ---- a client as it is kept
 
-pub keeps : (w : WorldState) (ks : Kepts) (n : Name) (x : AMember) → IsRun w ks → w.actors n ≡ Named x → Keeps (birth_at w.pad x.birth) x.client (ks n)
-keeps w ks n x r e = subst (λ a. KeepsActor w.pad a (ks n)) e (kept w ks r n)
+pub keeps : (w : WorldState) (ks : Kepts) (n : Name) (x : AMember) → IsRun w ks → w.actors n ≡ Named x → Keeps (birth_at w.pad x.birth) x.client (ks n).client
+keeps w ks n x r e = subst (λ a. KeepsActor w.pad a (ks n).client) e (kept w ks r n)
 
 pub sound : (w : WorldState) (ks : Kepts) (n : Name) (x : AMember) → IsRun w ks → w.actors n ≡ Named x → IsSound (birth_at w.pad x.birth) x.client
 sound w ks n x r e =
@@ -59,7 +61,7 @@ module _ {D : Type 0} (told_by : D → Option Contents) (failures : D → ℕ) (
     pub named : w.actors n ≡ Named member
     pub is : m ≡ member_of member (ks n)
     -- for a world in which the name stands for another member
-    pub steps : (v : WorldState) (y : AMember) (k : KeptClient) → v.pad ≡ w.pad → v.id ≡ w.id → v.actors ≡ put w.actors n (Named y) → m' ≡ member_of y k
+    pub steps : (v : WorldState) (y : AMember) (k : UndoState) → v.pad ≡ w.pad → v.id ≡ w.id → v.actors ≡ put w.actors n (Named y) → m' ≡ member_of y k
         → StandsFor told_by failures stops_alone alone rs new v (kept_put ks n k)
     -- for the same
     pub stays : m' ≡ m → StandsFor told_by failures stops_alone alone rs new w ks

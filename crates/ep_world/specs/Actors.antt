@@ -2,10 +2,10 @@
 use Rattle.std.specs.Prelude.{◌≡◌, Bool, true, false, if◌then◌else◌, List, [], ◌∷◌, Option, Some, None}
 use Rattle.std.specs.Option.{option_map}
 use Rattle.ep_units.specs.Text.{text_eq}
-use Rattle.ep_history.specs.Kept.{KeptClient, kept_lost}
 use Rattle.ep_schedule.specs.World.{Name, Member as AMember, Actor as AnActor, WorldState}
 use Rattle.ep_schedule.specs.World.Actor.{Nobody, Guest, Named}
-use Rattle.ep_schedule.specs.Kepts.{Kepts}
+use Rattle.ep_undo.specs.Undo.{UndoState, undo_lost}
+use Rattle.ep_world.specs.Kepts.{Kepts}
 use Rattle.ep_world.specs.declared.actors.Actor.{Actor}
 use Rattle.ep_world.specs.declared.actors.Actor.TheVariants as actor
 use Rattle.ep_world.specs.declared.actors.Slot.{Slot}
@@ -24,7 +24,7 @@ found (s ∷ ss) n = if text_eq n s.name then s.actor else found ss n
 -- all connections of somebody are gone
 abbrev pub kept_cut_off : Actor → Actor
 kept_cut_off (actor.Guest c) = actor.Guest (kept_cut c)
-kept_cut_off (actor.Named m) = actor.Named (record { client = kept_lost m.client; birth = m.birth; conn = kept_cut m.conn; earlier = None })
+kept_cut_off (actor.Named m) = actor.Named (record { client = undo_lost m.client; birth = m.birth; conn = kept_cut m.conn; earlier = None })
 
 -- the name stands for nobody, and every other as before
 abbrev pub IsWithout : List Slot → Name → List Slot → Type 0
@@ -64,11 +64,11 @@ IsNoClient (Some (actor.Named m)) = ⊥
 
 -- ---- for whom they stand
 
--- a client that is kept like this
-abbrev pub member_of : AMember → KeptClient → Member
+-- a client that is kept like this, with its stacks
+abbrev pub member_of : AMember → UndoState → Member
 member_of m k = record { client = k; birth = m.birth; conn = conn_of m.conn; earlier = option_map conn_of m.earlier }
 
-abbrev pub actor_of : AnActor → KeptClient → Option Actor
+abbrev pub actor_of : AnActor → UndoState → Option Actor
 actor_of Nobody k = None
 actor_of (Guest c) k = Some (actor.Guest (conn_of c))
 actor_of (Named m) k = Some (actor.Named (member_of m k))

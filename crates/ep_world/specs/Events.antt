@@ -2,13 +2,15 @@
 use Rattle.std.specs.Prelude.{ℕ, Bool, true, false, not, Option, Some, None}
 use Rattle.ep_units.specs.Text.{Text, is_well_formed}
 use Rattle.ep_cs.specs.Doc.{Doc}
+use Rattle.ep_cs.specs.Edit.{Edit}
 use Rattle.ep_invert.specs.declared.bad.SpliceBad.{SpliceBad}
 use Rattle.ep_history.specs.Client.{view}
 use Rattle.ep_history.specs.Pad.{PadState, birth_at}
 use Rattle.ep_schedule.specs.World.{Member, Actor, WorldState, Event, happens}
 use Rattle.ep_schedule.specs.World.Actor.{Nobody, Guest, Named}
 use Rattle.ep_schedule.specs.World.Event.{Create, SetText, Delete, Login, Visit, Edits, Submit, Inject, Take, Late, Push, Hear, Lose, Resume, Stop}
-use Rattle.ep_schedule.specs.Kepts.{Kepts, kept_happens}
+use Rattle.ep_undo.specs.Undo.{top}
+use Rattle.ep_world.specs.Kepts.{Kepts, kept_steps}
 use Rattle.ep_event.specs.declared.event.Local.{Local}
 use Rattle.ep_local.specs.Local.{is_local_text, local_bad, local_edit}
 use Rattle.ep_event.specs.declared.event.StopAt.{StopAt}
@@ -35,38 +37,45 @@ edit_if n e doc (Some why) = None
 abbrev pub edit_at : WorldState → Text → Local → Member → Option Event
 edit_at w n e m = edit_if n e (view_of w.pad m) (local_bad e (view_of w.pad m))
 
+-- what an undo, or a redo, makes is the top of a stack, where it has one
+abbrev pub made_top : Text → Option Edit → Option Event
+made_top n None = None
+made_top n (Some u) = Some (Edits n u)
+
 -- whose take a stop comes into
 abbrev pub stopped_name : Option StopAt → Option Text
 stopped_name None = None
 stopped_name (Some at) = Some at.name
 
--- the event that is asked for at a moment, where there is one. Of a stop the disk decides whether the record of the take
--- that it came into is kept.
-abbrev pub event_at : WorldState → ℕ → Bool → Told → Option Event
-event_at w now kept (told.Create text) = Some (Create now text)
-event_at w now kept (told.SetText text) = Some (SetText now text)
-event_at w now kept told.Delete = Some Delete
-event_at w now kept (told.Login n) = Some (Login now n)
-event_at w now kept (told.Guest n read_only) = Some (Visit now n read_only)
-event_at w now kept (told.Edit n e) = of_client None (edit_at w n e) (w.actors n)
-event_at w now kept (told.Submit n) = Some (Submit n)
-event_at w now kept (told.Inject n base change) = Some (Inject n base change)
-event_at w now kept (told.Take n) = Some (Take now n)
-event_at w now kept (told.Late n) = Some (Late now n)
-event_at w now kept (told.Push n) = Some (Push n)
-event_at w now kept (told.Hear n) = Some (Hear n)
-event_at w now kept (told.Lose n) = Some (Lose n)
-event_at w now kept (told.Resume n) = Some (Resume n)
-event_at w now kept (told.Stop at) = Some (Stop now (stopped_name at) kept)
+-- the event that is asked for at a moment, where there is one. What is taken back, or made again, the clients tell as they are
+-- kept. Of a stop the disk decides whether the record of the take that it came into is kept.
+abbrev pub event_at : WorldState → Kepts → ℕ → Bool → Told → Option Event
+event_at w ks now kept (told.Create text) = Some (Create now text)
+event_at w ks now kept (told.SetText text) = Some (SetText now text)
+event_at w ks now kept told.Delete = Some Delete
+event_at w ks now kept (told.Login n) = Some (Login now n)
+event_at w ks now kept (told.Guest n read_only) = Some (Visit now n read_only)
+event_at w ks now kept (told.Edit n e) = of_client None (edit_at w n e) (w.actors n)
+event_at w ks now kept (told.Undo n) = of_client None (λ m. made_top n (top (ks n).undos)) (w.actors n)
+event_at w ks now kept (told.Redo n) = of_client None (λ m. made_top n (top (ks n).redos)) (w.actors n)
+event_at w ks now kept (told.Submit n) = Some (Submit n)
+event_at w ks now kept (told.Inject n base change) = Some (Inject n base change)
+event_at w ks now kept (told.Take n) = Some (Take now n)
+event_at w ks now kept (told.Late n) = Some (Late now n)
+event_at w ks now kept (told.Push n) = Some (Push n)
+event_at w ks now kept (told.Hear n) = Some (Hear n)
+event_at w ks now kept (told.Lose n) = Some (Lose n)
+event_at w ks now kept (told.Resume n) = Some (Resume n)
+event_at w ks now kept (told.Stop at) = Some (Stop now (stopped_name at) kept)
 
 -- the world, and the clients as they are kept, after an event, where there is one
 abbrev pub happened : WorldState → Option Event → WorldState
 happened w None = w
 happened w (Some e) = happens w e
 
-abbrev pub kept_happened : WorldState → Kepts → Option Event → Kepts
-kept_happened w ks None = ks
-kept_happened w ks (Some e) = kept_happens w ks e
+abbrev pub kept_happened : WorldState → Kepts → Told → Option Event → Kepts
+kept_happened w ks asked None = ks
+kept_happened w ks asked (Some e) = kept_steps w ks asked e
 
 -- ---- whose it is
 
@@ -95,6 +104,8 @@ is_known w told.Delete = true
 is_known w (told.Login n) = not (is_guest (w.actors n))
 is_known w (told.Guest n read_only) = not (is_client (w.actors n))
 is_known w (told.Edit n e) = is_client (w.actors n)
+is_known w (told.Undo n) = is_client (w.actors n)
+is_known w (told.Redo n) = is_client (w.actors n)
 is_known w (told.Submit n) = is_client (w.actors n)
 is_known w (told.Inject n base change) = is_guest (w.actors n)
 is_known w (told.Take n) = not (is_nobody (w.actors n))

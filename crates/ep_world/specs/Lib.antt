@@ -1,6 +1,7 @@
 pub mod Failing
 pub mod Counting
 pub mod Conns
+pub mod Kepts
 pub mod Actors
 pub mod Events
 pub mod Shows
@@ -10,6 +11,7 @@ pub mod Taking
 pub mod Telling
 pub mod Pushing
 pub mod Members
+pub mod Undoing
 pub mod Stopping
 pub mod Entering
 pub mod Leading

@@ -1,7 +1,8 @@
 -- The steps of a client with its connections, as it is kept.
 use Rattle.std.specs.Prelude.{◌≡◌, ℕ, if◌then◌else◌, [], Option, Some, None, Ok}
 use Rattle.ep_units.specs.declared.session.Session.{Session}
-use Rattle.ep_history.specs.Kept.{KeptClient, kept_lost, kept_resumes, kept_submitted, kept_submission}
+use Rattle.ep_history.specs.Kept.{KeptClient, kept_submitted, kept_submission}
+use Rattle.ep_undo.specs.Undo.{undo_lost, undo_resumes, with_client}
 use Rattle.ep_schedule.specs.World.{Name}
 use Rattle.ep_event.specs.declared.shown.Shown.{Shown}
 use Rattle.ep_event.specs.declared.shown.Shown.TheVariants as shown
@@ -14,15 +15,15 @@ use Rattle.ep_world.specs.Telling.{kept_hears_down, shows_hears}
 
 -- its connection is lost, where it was connected
 abbrev pub kept_member_lost : Member → Member
-kept_member_lost m = if m.client.connected then record m { client = kept_lost m.client; conn = kept_down m.conn [] } else m
+kept_member_lost m = if m.client.client.connected then record m { client = undo_lost m.client; conn = kept_down m.conn [] } else m
 
 -- it is connected anew at its revision, in this session, and is told the head
 abbrev pub kept_member_resumed : Session → ℕ → Member → Member
-kept_member_resumed s head m = record m { client = kept_resumes s head m.client; conn = kept_new s m.client.rev; earlier = Some m.conn }
+kept_member_resumed s head m = record m { client = undo_resumes s head m.client; conn = kept_new s m.client.client.rev; earlier = Some m.conn }
 
 -- all its connections are gone
 abbrev pub kept_member_cut : Member → Member
-kept_member_cut m = record m { client = kept_lost m.client; conn = kept_cut m.conn; earlier = None }
+kept_member_cut m = record m { client = undo_lost m.client; conn = kept_cut m.conn; earlier = None }
 
 -- the first message of the connection before its last resumption is taken, with that connection's session
 abbrev pub TakesLateOf : Member → Option KeptConn → Option (Session × Sent) → Member → Type 0
@@ -38,14 +39,14 @@ TakesLate old x new = TakesLateOf old old.earlier x new
 abbrev pub HearsDown : Name → Member → Member → Shown → Type 0
 HearsDown n old new s =
     (first : Option Down) × (c : KeptConn) × TakesDown old.conn first c
-    × (new ≡ record old { client = kept_hears_down first old.client; conn = c }) × (s ≡ shows_hears n old.client first)
+    × (new ≡ record old { client = kept_hears_down first old.client; conn = c }) × (s ≡ shows_hears n old.client.client first)
 
 -- what it sends enters its queue up, where it sends something
 abbrev pub SubmitsOf : Name → Option KeptClient → Member → Member → Shown → Type 0
 SubmitsOf n None old new s = (new ≡ old) × (s ≡ shown.Nothing verb.Submit n)
 SubmitsOf n (Some k) old new s =
     let x = kept_submission k in
-    (new ≡ record old { client = k; conn = kept_sends (record { base = x.base; change = Ok x.change }) old.conn }) × (s ≡ shown.Submitted n x.base x.change)
+    (new ≡ record old { client = with_client old.client k; conn = kept_sends (record { base = x.base; change = Ok x.change }) old.conn }) × (s ≡ shown.Submitted n x.base x.change)
 
 abbrev pub SubmitsUp : Name → Member → Member → Shown → Type 0
-SubmitsUp n old new s = SubmitsOf n (kept_submitted old.client) old new s
+SubmitsUp n old new s = SubmitsOf n (kept_submitted old.client.client) old new s

@@ -37,7 +37,7 @@ module _ {D : Type 0} (told_by : D → Option Contents) (failures : D → ℕ) (
   -- a client is told the next, if it may be told anything
   abbrev pub TellsMember : PadState → Member → Held D → Member → Pushed → Type 0
   TellsMember pad old machine new p =
-      TellsIf (old.client.connected && not old.conn.closed) pad old.conn new.conn p × (new ≡ record old { conn = new.conn }) × IsAt told_by failures stops_alone alone rs machine pad
+      TellsIf (old.client.client.connected && not old.conn.closed) pad old.conn new.conn p × (new ≡ record old { conn = new.conn }) × IsAt told_by failures stops_alone alone rs machine pad
 
 module _ {D : Type 0} (told_by : D → Option Contents) (failures : D → ℕ) (stops_alone : D → Bool) where
   -- the same, whatever pad the machine is of

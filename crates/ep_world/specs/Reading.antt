@@ -5,7 +5,7 @@ use Rattle.ep_cs.specs.Doc.{Doc}
 use Rattle.ep_history.specs.History.{head, head_doc}
 use Rattle.ep_history.specs.Kept.{KeptClient}
 use Rattle.ep_history.specs.Pad.{PadState, newest}
-use Rattle.ep_schedule.specs.Kepts.{Kepts}
+use Rattle.ep_world.specs.Kepts.{Kepts}
 use Rattle.ep_schedule.specs.World.{Name, WorldState}
 use Rattle.ep_pad.specs.Held.{Held}
 use Rattle.ep_event.specs.declared.shown.Shown.{Shown}
@@ -23,7 +23,7 @@ use Rattle.ep_history.specs.declared.record.Record.{Record}
 
 -- the client of this name as it is kept, where there is one
 abbrev pub client_kept : WorldState → Kepts → Name → Option KeptClient
-client_kept w ks n = of_client None (λ m. Some (ks n)) (w.actors n)
+client_kept w ks n = of_client None (λ m. Some (ks n).client) (w.actors n)
 
 -- just this is shown of a client, or memory is wanting; where there is no client, that nobody has the name
 abbrev pub ShowsClient : Option Shown → Result Shown WorldBad → Type 0

@@ -1,6 +1,9 @@
 -- What is shown of an event, and of the world.
 use Rattle.std.specs.Prelude.{ℕ, suc, Bool, true, false, not, ◌&&◌, ◌==◌, nat_le, if◌then◌else◌, List, [], ◌∷◌, Option, Some, None}
 use Rattle.ep_units.specs.declared.session.Session.{Session}
+use Rattle.ep_cs.specs.Change.{stamped}
+use Rattle.ep_cs.specs.Doc.{Doc, text_of}
+use Rattle.ep_cs.specs.Edit.{Edit}
 use Rattle.ep_invert.specs.declared.bad.SpliceBad.{SpliceBad}
 use Rattle.ep_invert.specs.declared.bad.SpliceBad.TheVariants as splice
 use Rattle.ep_history.specs.Accept.{at_head}
@@ -38,6 +41,8 @@ use Rattle.ep_event.specs.declared.shown.Shown.{Shown}
 use Rattle.ep_event.specs.declared.shown.Shown.TheVariants as shown
 use Rattle.ep_world.specs.Conns.{why_unread, word_of}
 use Rattle.ep_local.specs.Local.{local_bad}
+use Rattle.ep_undo.specs.Undo.{top}
+use Rattle.ep_world.specs.Kepts.{Kepts}
 use Rattle.ep_world.specs.Events.{of_client, view_of, event_at, happened}
 
 -- ---- refusals
@@ -102,6 +107,11 @@ shows_edited v n (Some b) = shown.Refused v (Some n) (edit_reason b)
 
 abbrev pub shows_edit : WorldState → Name → Local → Member → Shown
 shows_edit w n e m = shows_edited (verb_of e) n (local_bad e (view_of w.pad m))
+
+-- what is taken back or made again, as a change of what the client sees; or that there is nothing
+abbrev pub shows_remade : Verb → Name → Doc → Option Edit → Shown
+shows_remade v n doc None = shown.Nothing v n
+shows_remade v n doc (Some u) = shown.Remade v n (stamped u (text_of doc))
 
 -- what a client sent
 abbrev pub shows_sent : Name → Option Submission → Shown
@@ -191,24 +201,26 @@ shows_opening pad = shown.Crashed pad.epoch (head_if pad)
 
 -- ---- an event
 
--- what an event at this moment shows
-abbrev pub shows : WorldState → ℕ → Bool → Event → Shown
-shows w now kept (event.Create text) = shows_created (first_rev now text) (create_fault w.pad text)
-shows w now kept (event.SetText text) = shows_set (revised w.pad (set_head w.pad text)) (set_fault w.pad text)
-shows w now kept event.Delete = shows_deleted (gone_fault w.pad)
-shows w now kept (event.Login n) = shows_entered verb.Login n (opened w.pad now) (login_fault w.pad (grant_of w n false))
-shows w now kept (event.Guest n read_only) =
+-- what an event at this moment shows, of a world with these clients
+abbrev pub shows : WorldState → Kepts → ℕ → Bool → Event → Shown
+shows w ks now kept (event.Create text) = shows_created (first_rev now text) (create_fault w.pad text)
+shows w ks now kept (event.SetText text) = shows_set (revised w.pad (set_head w.pad text)) (set_fault w.pad text)
+shows w ks now kept event.Delete = shows_deleted (gone_fault w.pad)
+shows w ks now kept (event.Login n) = shows_entered verb.Login n (opened w.pad now) (login_fault w.pad (grant_of w n false))
+shows w ks now kept (event.Guest n read_only) =
     shows_entered (visit_verb read_only) n (opened w.pad now) (login_fault w.pad (grant_of w n read_only))
-shows w now kept (event.Edit n e) = of_client (shown.Nothing (verb_of e) n) (shows_edit w n e) (w.actors n)
-shows w now kept (event.Submit n) = of_client (shown.Nothing verb.Submit n) (shows_submit w n) (w.actors n)
-shows w now kept (event.Inject n base change) = shown.Done verb.Inject (Some n)
-shows w now kept (event.Take n) = shows_first verb.Take n w.pad (next_up (w.actors n))
-shows w now kept (event.Late n) = of_client (shown.Nothing verb.Late n) (λ m. shows_first verb.Late n w.pad (late_up m.earlier)) (w.actors n)
-shows w now kept (event.Push n) = of_client (shown.Nothing verb.Push n) (shows_push w n) (w.actors n)
-shows w now kept (event.Hear n) = of_client (shown.Nothing verb.Hear n) (shows_hear n) (w.actors n)
-shows w now kept (event.Lose n) = of_client (shown.Nothing verb.Lose n) (shows_lose n) (w.actors n)
-shows w now kept (event.Resume n) = of_client (shown.Nothing verb.Resume n) (shows_resume w n) (w.actors n)
-shows w now kept (event.Stop at) = shows_opening (happened w (event_at w now kept (event.Stop at))).pad
+shows w ks now kept (event.Edit n e) = of_client (shown.Nothing (verb_of e) n) (shows_edit w n e) (w.actors n)
+shows w ks now kept (event.Undo n) = of_client (shown.Nothing verb.Undo n) (λ m. shows_remade verb.Undo n (view_of w.pad m) (top (ks n).undos)) (w.actors n)
+shows w ks now kept (event.Redo n) = of_client (shown.Nothing verb.Redo n) (λ m. shows_remade verb.Redo n (view_of w.pad m) (top (ks n).redos)) (w.actors n)
+shows w ks now kept (event.Submit n) = of_client (shown.Nothing verb.Submit n) (shows_submit w n) (w.actors n)
+shows w ks now kept (event.Inject n base change) = shown.Done verb.Inject (Some n)
+shows w ks now kept (event.Take n) = shows_first verb.Take n w.pad (next_up (w.actors n))
+shows w ks now kept (event.Late n) = of_client (shown.Nothing verb.Late n) (λ m. shows_first verb.Late n w.pad (late_up m.earlier)) (w.actors n)
+shows w ks now kept (event.Push n) = of_client (shown.Nothing verb.Push n) (shows_push w n) (w.actors n)
+shows w ks now kept (event.Hear n) = of_client (shown.Nothing verb.Hear n) (shows_hear n) (w.actors n)
+shows w ks now kept (event.Lose n) = of_client (shown.Nothing verb.Lose n) (shows_lose n) (w.actors n)
+shows w ks now kept (event.Resume n) = of_client (shown.Nothing verb.Resume n) (shows_resume w n) (w.actors n)
+shows w ks now kept (event.Stop at) = shows_opening (happened w (event_at w ks now kept (event.Stop at))).pad
 
 -- ---- what is there
 

@@ -11,8 +11,9 @@ use Rattle.ep_history.specs.declared.pad_bad.PadBad.TheVariants as bad
 use Rattle.ep_history.specs.declared.record.Record.{Record}
 use Rattle.ep_history.specs.declared.record.Record.TheVariants as record_of
 use Rattle.ep_schedule.specs.World.{Name, WorldState, Event, start, run}
-use Rattle.ep_schedule.specs.World.Event.{Lose, Overfull, Take}
-use Rattle.ep_schedule.specs.Kepts.{Kepts, nobodies, run_kept}
+use Rattle.ep_schedule.specs.World.Event.{Lose, Overfull, Stop, Take}
+use Rattle.ep_schedule.specs.Kepts.{nobodies, run_kept}
+use Rattle.ep_world.specs.Kepts.{Kepts, clients_of}
 use Rattle.ep_pad.specs.Held.{Held}
 use Rattle.ep_pad.specs.Opening.{HasRisenTo}
 use Rattle.ep_pad_file.specs.Standing.{Holds, MayHold}
@@ -23,20 +24,20 @@ use Rattle.ep_event.specs.declared.shown.Shown.{Shown}
 use Rattle.ep_world.specs.declared.bad.WorldBad.{WorldBad}
 use Rattle.ep_world.specs.declared.bad.WorldBad.TheVariants as world_bad
 use Rattle.ep_world.specs.Actors.{AreActors, actor_of, found}
-use Rattle.ep_world.specs.Events.{event_at, happened, kept_happened, is_known, has_text}
+use Rattle.ep_world.specs.Events.{event_at, happened, kept_happened, is_known, has_text, stopped_name}
 use Rattle.ep_world.specs.declared.world.World.{World}
 use Rattle.ep_world.specs.Journal.{Decides, LacksOpening, behind, full_at, full_by, full_in, is_shut, journal_after, journal_full, record_in, unopened}
 use Rattle.ep_world.specs.Shows.{shows}
 
 -- ---- runs
 
--- a world, and its clients as they are kept, to which some events lead
+-- a world, and its clients as they are kept, to which some events lead; what is on their stacks is not asked
 pub record IsRun (w : WorldState) (ks : Kepts) : Type 0 where
   pub limits : Limits
   pub id : Text
   pub events : List Event
   pub world : w ≡ run events (start limits id)
-  pub kepts : ks ≡ run_kept events (start limits id) nobodies
+  pub kepts : clients_of ks ≡ run_kept events (start limits id) nobodies
 
 -- ---- a pad's machine
 
@@ -59,7 +60,7 @@ answer_of (Records r a next) = Some a
 abbrev pub overfull_at : List Record → WorldState → ℕ → Bool → Told → Option Event
 overfull_at rs w now kept (told.Take n) = Some (if is_shut rs w.pad then Take now n else Overfull n)
 overfull_at rs w now kept (told.Resume n) = Some (Lose n)
-overfull_at rs w now kept (told.Stop at) = event_at w now kept (told.Stop at)
+overfull_at rs w now kept (told.Stop at) = Some (Stop now (stopped_name at) kept)
 overfull_at rs w now kept e = None
 
 module _ {D : Type 0} (told_by : D → Option Contents) (failures : D → ℕ) (stops_alone : D → Bool) (alone : Bool) (rs : List Record) where
@@ -130,11 +131,11 @@ module _ {D : Type 0} (told_by : D → Option Contents) (failures : D → ℕ) (
   -- an event was played: it is shown, and then the world in code stands for the one after it; or for the one in which the
   -- journal had no room, for its record or for an opening
   pub data IsPlayed (w : WorldState) (ks : Kepts) (now : ℕ) (e : Told) (new : World D) (shown : Shown) : Type 0 where
-    IsEvent : (kept : Bool) → shown ≡ shows w now kept e → full_at rs w now kept e ≡ None → (alone ≡ true → Decides rs w now e kept)
-        → StandsFor told_by failures stops_alone alone (journal_after rs w now kept e) new (happened w (event_at w now kept e)) (kept_happened w ks (event_at w now kept e))
+    IsEvent : (kept : Bool) → shown ≡ shows w ks now kept e → full_at rs w now kept e ≡ None → (alone ≡ true → Decides rs w now e kept)
+        → StandsFor told_by failures stops_alone alone (journal_after rs w now kept e) new (happened w (event_at w ks now kept e)) (kept_happened w ks e (event_at w ks now kept e))
         → IsPlayed w ks now e new shown
     HasNoRoom : (kept : Bool) → full_at rs w now kept e ≡ Some shown → (alone ≡ true → Decides rs w now e kept)
-        → StandsFor told_by failures stops_alone alone (journal_full rs w now kept e) new (happened w (overfull_at rs w now kept e)) (kept_happened w ks (overfull_at rs w now kept e))
+        → StandsFor told_by failures stops_alone alone (journal_full rs w now kept e) new (happened w (overfull_at rs w now kept e)) (kept_happened w ks e (overfull_at rs w now kept e))
         → IsPlayed w ks now e new shown
 
   -- what an event comes to. Where nobody of the kind has the name, or where what it brings is no text, nothing happens.

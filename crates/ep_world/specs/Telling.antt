@@ -1,9 +1,10 @@
 -- What telling a client comes to, and what it hears.
 use Rattle.std.specs.Prelude.{ℕ, suc, Bool, false, ◌==◌, if◌then◌else◌, List, [], ◌∷◌, Option, Some, None}
-use Rattle.ep_history.specs.Kept.{KeptClient, kept_heard, kept_lost, kept_nop, is_kept_own}
+use Rattle.ep_history.specs.Kept.{KeptClient, kept_nop, is_kept_own}
 use Rattle.ep_history.specs.declared.rev.Rev.{Rev}
 use Rattle.ep_history.specs.declared.seat.Why.{Why}
 use Rattle.ep_history.specs.declared.seat.Why.TheVariants.{Replaced, Deleted, Reopened, Left}
+use Rattle.ep_undo.specs.Undo.{UndoState, undo_hears_rev, undo_lost, with_client}
 use Rattle.ep_schedule.specs.World.{Name}
 use Rattle.ep_event.specs.declared.shown.Ended.{Ended}
 use Rattle.ep_event.specs.declared.shown.Ended.TheVariants as ended
@@ -63,11 +64,11 @@ told_next (h ∷ hs) vs c = if h == c.sent then kept_tells_spent c else told_rev
 -- ---- what is heard
 
 -- a client after the first of its queue down, where there is one
-abbrev pub kept_hears_down : Option Down → KeptClient → KeptClient
+abbrev pub kept_hears_down : Option Down → UndoState → UndoState
 kept_hears_down None k = k
-kept_hears_down (Some (down.Revision v)) k = kept_heard v k
-kept_hears_down (Some (down.Spent r)) k = kept_nop k
-kept_hears_down (Some (down.Closing word)) k = kept_lost k
+kept_hears_down (Some (down.Revision v)) k = undo_hears_rev v.change v.session k
+kept_hears_down (Some (down.Spent r)) k = with_client k (kept_nop k.client)
+kept_hears_down (Some (down.Closing word)) k = undo_lost k
 
 -- and what is shown of that
 abbrev pub shows_hears : Name → KeptClient → Option Down → Shown

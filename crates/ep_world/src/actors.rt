@@ -3,17 +3,17 @@
 ghost use Rattle.std.specs.Prelude.{◌≡◌, true, [], if◌then◌else◌, ◌≢◌, Bool, List, Option, Some, None, OnOk, IfOk, IfErr, position};
 ghost use Rattle.std.specs.Option.{option_map};
 ghost use Rattle.ep_units.specs.Text.{Text, text_eq};
-ghost use Rattle.ep_history.specs.Kept.{KeptClient};
 ghost use Rattle.ep_world.specs.Actors.{found, kept_cut_off, is_a_client, is_a_guest, IsNoClient, IsSame, IsWithout, PutsActor, Steps, StepsAt};
 ghost use Rattle.ep_world.specs.Counting.{Counts};
 ghost use Rattle.ep_local.specs.Local.{is_local_text};
 ghost use Rattle.ep_world.specs.Failing.{IsFailure};
 ghost use Rattle.ep_world.specs.Members.{HearsDown, SubmitsUp};
 ghost use Rattle.ep_world.specs.Pushing.{Tells};
+ghost use Rattle.ep_undo.specs.Undo.{UndoState};
 ghost use Rattle.ep_world.specs.Standing.{IsAt};
+ghost use Rattle.ep_world.specs.Undoing.{EditsView, Remakes};
 ghost use Rattle.ep_history.specs.Pad.{PadState};
 ghost use Rattle.ep_history.specs.declared.record.Record.{Record};
-ghost use Rattle.ep_local.specs.Makes.{EditsView};
 ghost use Rattle.ep_world.specs.declared.member.Member.{Member as AMember};
 ghost use Rattle.ep_world.specs.declared.actors.Actor.TheVariants as actor;
 ghost use Rattle.ep_world.specs.declared.bad.WorldBad.TheVariants as unknown;
@@ -22,9 +22,9 @@ use crate::bad::WorldBad;
 use crate::conn::Conn;
 use crate::member::Member;
 use crate::telling::{Pushed, tell_member};
+use crate::undoing::{Remake, edit_view};
 use ep_event::{Local, Shown};
 use ep_invert::SpliceBad;
-use ep_local::edit_view;
 use ep_outside::Disk;
 use ep_pad::PadMachine;
 use ep_units::{NoMemory, Units};
@@ -188,7 +188,7 @@ impl Actors {
         edit: &Local,
     ) -> Result<Option<SpliceBad>, WorldBad>
         requires { is_local_text edit.now ≡ true }
-        ensures edited { IfOk result (λ bad. (m : AMember) × ((k : KeptClient) × Steps self.old name.now m (record m { client = k }) self.new × EditsView edit.now m.client k bad)) }
+        ensures edited { IfOk result (λ bad. (m : AMember) × ((k : UndoState) × Steps self.old name.now m (record m { client = k }) self.new × EditsView edit.now m.client k bad)) }
         ensures unknown { IfErr result (λ bad. bad ≡ unknown.Unknown → IsNoClient (found self.old name.now) × IsSame self.old self.new) }
         ensures failed { IfErr result (λ bad. bad ≢ unknown.Unknown → bad ≡ unknown.NoMemory) }
     {
@@ -213,6 +213,23 @@ impl Actors {
             return Err(WorldBad::Unknown);
         };
         self.slots[place].push(machine)
+    }
+
+    /// The client of a name takes an edit back, or makes one again, if there is one.
+    pub(crate) fn remake(
+        &mut self,
+        alloc: Global,
+        remake: Remake,
+        name: Units,
+    ) -> Result<Shown, WorldBad>
+        ensures made { IfOk result (λ s. (m : AMember) × ((m' : AMember) × Steps self.old name m m' self.new × Remakes remake name m m' s)) }
+        ensures unknown { IfErr result (λ bad. bad ≡ unknown.Unknown → IsNoClient (found self.old name) × IsSame self.old self.new) }
+        ensures failed { IfErr result (λ bad. bad ≢ unknown.Unknown → bad ≡ unknown.NoMemory) }
+    {
+        let Some(place) = self.place(&name) else {
+            return Err(WorldBad::Unknown);
+        };
+        self.slots[place].remake(alloc, remake, name)
     }
 
     /// All connections are gone.
@@ -274,12 +291,23 @@ impl Slot {
 
     fn edit(&mut self, alloc: Global, edit: &Local) -> Result<Option<SpliceBad>, WorldBad>
         requires { is_local_text edit.now ≡ true }
-        ensures edited { IfOk result (λ bad. (m : AMember) × ((k : KeptClient) × StepsAt self.old m (record m { client = k }) self.new × EditsView edit.now m.client k bad)) }
+        ensures edited { IfOk result (λ bad. (m : AMember) × ((k : UndoState) × StepsAt self.old m (record m { client = k }) self.new × EditsView edit.now m.client k bad)) }
         ensures unknown { IfErr result (λ bad. bad ≡ unknown.Unknown → IsNoClient self.old.actor × (self.new ≡ self.old)) }
         ensures failed { IfErr result (λ bad. bad ≢ unknown.Unknown → bad ≡ unknown.NoMemory) }
     {
         match &mut self.actor {
             Some(Actor::Named(member)) => Ok(edit_view(alloc, &mut member.client, edit)?),
+            _ => Err(WorldBad::Unknown),
+        }
+    }
+
+    fn remake(&mut self, alloc: Global, remake: Remake, name: Units) -> Result<Shown, WorldBad>
+        ensures made { IfOk result (λ s. (m : AMember) × ((m' : AMember) × StepsAt self.old m m' self.new × Remakes remake name m m' s)) }
+        ensures unknown { IfErr result (λ bad. bad ≡ unknown.Unknown → IsNoClient self.old.actor × (self.new ≡ self.old)) }
+        ensures failed { IfErr result (λ bad. bad ≢ unknown.Unknown → bad ≡ unknown.NoMemory) }
+    {
+        match &mut self.actor {
+            Some(Actor::Named(member)) => Ok(member.remake(alloc, remake, name)?),
             _ => Err(WorldBad::Unknown),
         }
     }

@@ -21,6 +21,7 @@ use ep_client::Client;
 use ep_event::{Shown, Verb};
 use ep_outside::Crash;
 use ep_pad::Welcome;
+use ep_undo::UndoClient;
 use ep_units::{Grant, NoMemory, PadId, Units};
 use std::alloc::Global;
 
@@ -72,7 +73,7 @@ impl<D: Crash> World<D> {
         let birth = Some(member.birth);
         match self
             .machine
-            .resume(&grant, member.client.rev(), birth, None, now)
+            .resume(&grant, member.client.client().rev(), birth, None, now)
         {
             Ok(told) => {
                 member.resume(self.alloc, told.session, told.head);
@@ -103,8 +104,9 @@ fn start(
 {
     let session = welcome.session;
     let rev = welcome.rev;
+    let client = Client::start(alloc, welcome.doc, rev, session)?;
     let member = Member {
-        client: Client::start(alloc, welcome.doc, rev, session)?,
+        client: UndoClient::start(alloc, client),
         birth: welcome.birth,
         conn: Conn::new(alloc, session, rev),
         earlier: None,

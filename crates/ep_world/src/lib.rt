@@ -19,6 +19,7 @@ mod server;
 mod stopping;
 mod taking;
 mod telling;
+mod undoing;
 mod world;
 
 pub use actors::{Actor, Actors, Slot};
@@ -27,4 +28,5 @@ pub use conn::Conn;
 pub use member::Member;
 pub use message::{Down, Sent};
 pub use schedule::{late_law, schedule_law};
+pub use undoing::Remake;
 pub use world::World;

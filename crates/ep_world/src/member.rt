@@ -1,17 +1,21 @@
 //! A client with its connections.
 
 ghost use Rattle.std.specs.Prelude.{◌≡◌, suc, not, ◌&&◌, if◌then◌else◌, Option, Some, None, OnOk, IfOk};
-ghost use Rattle.ep_history.specs.Kept.{kept_heard, kept_lost, kept_resumes, is_kept_own};
-ghost use Rattle.ep_client.specs.Hearing.{kept_hears, told_of};
+ghost use Rattle.ep_history.specs.Kept.{is_kept_own};
+ghost use Rattle.ep_client.specs.Hearing.{told_of};
+ghost use Rattle.ep_undo.specs.Undo.{undo_hears, undo_hears_rev};
 ghost use Rattle.ep_event.specs.declared.shown.Shown.TheVariants as shown;
 ghost use Rattle.ep_world.specs.Conns.{kept_new};
 ghost use Rattle.ep_world.specs.Members.{HearsDown, SubmitsUp, TakesLate, kept_member_cut, kept_member_lost, kept_member_resumed};
+ghost use Rattle.ep_world.specs.Undoing.{Remakes};
 
 use crate::conn::Conn;
 use crate::message::{Down, Sent};
-use ep_client::{Client, Heard, Told};
+use crate::undoing::Remake;
+use ep_client::{Heard, Told};
 use ep_event::{Shown, Verb};
 use ep_history::Rev;
+use ep_undo::UndoClient;
 use ep_units::{NoMemory, Session, Units};
 use std::alloc::Global;
 use std::mem::replace;
@@ -19,7 +23,7 @@ use std::mem::replace;
 /// A client, the birth of the pad that it is of, its connection, and the one before its last resumption.
 #[derive(Drop)]
 pub struct Member {
-    pub(crate) client: Client,
+    pub(crate) client: UndoClient,
     pub(crate) birth: u64,
     pub(crate) conn: Conn,
     pub(crate) earlier: Option<Conn>,
@@ -30,7 +34,7 @@ impl Member {
     pub fn lose(&mut self)
         ensures { self.new ≡ kept_member_lost self.old }
     {
-        if self.client.is_connected() {
+        if self.client.client().is_connected() {
             self.client.lost();
             self.conn.give_up();
         }
@@ -40,7 +44,7 @@ impl Member {
     pub fn resume(&mut self, alloc: Global, session: Session, head: u64)
         ensures { self.new ≡ kept_member_resumed session head self.old }
     {
-        let conn = Conn::new(alloc, session, self.client.rev());
+        let conn = Conn::new(alloc, session, self.client.client().rev());
         self.client.resume(session, head);
         self.earlier = Some(replace(&mut self.conn, conn));
     }
@@ -56,9 +60,9 @@ impl Member {
 
     /// Whether it can be told anything: it is connected, and had no closing.
     pub fn may_be_told(&self) -> bool
-        ensures { result ≡ (self.now.client.connected && not self.now.conn.closed) }
+        ensures { result ≡ (self.now.client.client.connected && not self.now.conn.closed) }
     {
-        self.client.is_connected() && !self.conn.closed
+        self.client.client().is_connected() && !self.conn.closed
     }
 
     /// The first message of the connection before its last resumption, with that connection's session.
@@ -91,10 +95,10 @@ impl Member {
     }
 
     fn hear_rev(&mut self, alloc: Global, name: Units, next: Rev) -> Result<Shown, NoMemory>
-        ensures made { OnOk result (self.new ≡ record self.old { client = kept_heard next self.old.client }) }
-        ensures shown { IfOk result (λ s. s ≡ (if is_kept_own next.session self.old.client.sent_in then shown.Committed name (suc self.old.client.rev) else shown.Heard name (suc self.old.client.rev))) }
+        ensures made { OnOk result (self.new ≡ record self.old { client = undo_hears_rev next.change next.session self.old.client }) }
+        ensures shown { IfOk result (λ s. s ≡ (if is_kept_own next.session self.old.client.client.sent_in then shown.Committed name (suc self.old.client.client.rev) else shown.Heard name (suc self.old.client.client.rev))) }
     {
-        let Some(rev) = self.client.rev().checked_add(1) else {
+        let Some(rev) = self.client.client().rev().checked_add(1) else {
             return Err(NoMemory);
         };
         let told = heard(
@@ -110,6 +114,18 @@ impl Member {
             Told::Commit => Shown::Committed { name, rev },
             Told::News => Shown::Heard { name, rev },
         })
+    }
+
+    /// It takes an edit back, or makes one again, if there is one.
+    pub(crate) fn remake(
+        &mut self,
+        alloc: Global,
+        remake: Remake,
+        name: Units,
+    ) -> Result<Shown, NoMemory>
+        ensures { IfOk result (Remakes remake name self.old self.new) }
+    {
+        remake.make(alloc, &mut self.client, name)
     }
 
     /// It sends what it has to send, if there is something.
@@ -136,9 +152,9 @@ impl Member {
 }
 
 /// A client hears, or memory is wanting.
-fn heard(client: &mut Client, alloc: Global, heard: Heard) -> Result<Told, NoMemory>
-    ensures made { OnOk result (client.new ≡ kept_hears heard client.old) }
-    ensures told { IfOk result (λ t. t ≡ told_of heard client.old) }
+fn heard(client: &mut UndoClient, alloc: Global, heard: Heard) -> Result<Told, NoMemory>
+    ensures made { OnOk result (client.new ≡ undo_hears heard client.old) }
+    ensures told { IfOk result (λ t. t ≡ told_of heard client.old.client) }
 {
     match client.hear(alloc, &heard) {
         Ok(told) => Ok(told),

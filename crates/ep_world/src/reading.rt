@@ -4,7 +4,7 @@ ghost use Rattle.std.specs.Prelude.{◌≡◌, ℕ, Bool, List, not, is_some, If
 ghost use Rattle.std.specs.Option.{option_map};
 ghost use Rattle.ep_cs.specs.Fits.{is_identity};
 ghost use Rattle.ep_history.specs.Pad.{PadState};
-ghost use Rattle.ep_schedule.specs.Kepts.{Kepts};
+ghost use Rattle.ep_world.specs.Kepts.{Kepts};
 ghost use Rattle.ep_schedule.specs.World.{WorldState};
 ghost use Rattle.ep_event.specs.declared.shown.Shown.TheVariants as shown;
 ghost use Rattle.ep_event.specs.declared.shown.Verb.TheVariants as verb;
@@ -44,7 +44,7 @@ impl<D: Crash> World<D> {
         ensures { (alone : Bool) (rs : List Record) (w : WorldState) (ks : Kepts) → StandsFor D.told D.failures D.stops_alone alone rs self.now w ks → option_map (λ c. c.now) result ≡ client_kept w ks name.now }
     {
         match self.actors.find(name) {
-            Some(Actor::Named(member)) => Some(&member.client),
+            Some(Actor::Named(member)) => Some(member.client.client()),
             _ => None,
         }
     }

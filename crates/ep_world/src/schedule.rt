@@ -5,7 +5,7 @@ ghost use Rattle.ep_units.specs.Text.{Text};
 ghost use Rattle.ep_outside.specs.declared.limits.Limits.{Limits as TheLimits};
 ghost use Rattle.ep_schedule.specs.Headline.{after};
 ghost use Rattle.ep_schedule.specs.World.{Event as AnEvent, WorldState, start};
-ghost use Rattle.ep_schedule.specs.Kepts.{Kepts, nobodies};
+ghost use Rattle.ep_world.specs.Kepts.{Kepts, nobodies};
 ghost use Rattle.ep_pad_file.specs.Standing.{Holds};
 ghost use Rattle.ep_event.specs.declared.event.Event.{Event as Told};
 ghost use Rattle.ep_world.specs.Journal.{begun};

@@ -6,10 +6,12 @@ ghost use Rattle.ep_event.specs.declared.event.Event.TheVariants as event;
 ghost use Rattle.ep_local.specs.Local.{is_local_text};
 ghost use Rattle.ep_world.specs.Shows.{shows_edited, verb_of};
 ghost use Rattle.ep_world.specs.Standing.{Ends, Plays};
+ghost use Rattle.ep_world.specs.Undoing.{remake_event};
 
 use crate::actors::Actor;
 use crate::bad::WorldBad;
 use crate::message::Sent;
+use crate::undoing::Remake;
 use crate::world::World;
 use ep_cs::Change;
 use ep_csread::ReadBad;
@@ -29,6 +31,14 @@ impl<D: Crash> World<D> {
         }
         let bad = self.actors.edit(self.alloc, &name, edit)?;
         Ok(show_edited(verb_of(edit), name, bad))
+    }
+
+    /// A client takes back the last edit that it hasn't taken back, or makes the last one again that it took back.
+    pub(crate) fn remake(&mut self, remake: Remake, name: Units) -> Result<Shown, WorldBad>
+        ensures plays { (now : ℕ) → Plays D.told D.failures D.stops_alone self.old now (remake_event remake name) result self.new }
+        ensures ends { (now : ℕ) → Ends D.told D.failures D.stops_alone self.old now (remake_event remake name) result self.new }
+    {
+        Ok(self.actors.remake(self.alloc, remake, name)?)
     }
 
     /// A client sends what it has to send.

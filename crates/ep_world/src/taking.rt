@@ -5,7 +5,7 @@ ghost use Rattle.ep_cs.specs.EditFits.{is_edit};
 ghost use Rattle.ep_history.specs.Pad.{PadState, leave};
 ghost use Rattle.ep_schedule.specs.World.{Message, Conn as AConn, Member as AMember, WorldState};
 ghost use Rattle.ep_schedule.specs.World.Actor.{Guest, Named};
-ghost use Rattle.ep_schedule.specs.Kepts.{Kepts};
+ghost use Rattle.ep_world.specs.Kepts.{Kepts};
 ghost use Rattle.ep_event.specs.declared.event.Event.TheVariants as event;
 ghost use Rattle.ep_world.specs.Actors.{member_of};
 ghost use Rattle.ep_world.specs.Conns.{conn_of, sent_of};

@@ -57,7 +57,7 @@ impl<D: Crash> World<D> {
         ensures ends { (now : ℕ) → Ends D.told D.failures D.stops_alone self.old now (event.Lose name) result self.new }
     {
         let mut member = self.actors.member(self.alloc, &name)?;
-        let was = member.client.is_connected();
+        let was = member.client.client().is_connected();
         member.lose();
         self.actors.seat(self.alloc, &name, member)?;
         Ok(show_lost(name, was))

@@ -3,13 +3,14 @@
 ghost use Rattle.std.specs.Prelude.{◌≡◌, [], Bool, List, IfErr, IfOk};
 ghost use Rattle.ep_history.specs.declared.record.Record.{Record};
 ghost use Rattle.ep_schedule.specs.World.{WorldState, start};
-ghost use Rattle.ep_schedule.specs.Kepts.{Kepts, nobodies};
+ghost use Rattle.ep_world.specs.Kepts.{Kepts, nobodies};
 ghost use Rattle.ep_pad_file.specs.Standing.{Holds};
 ghost use Rattle.ep_world.specs.Journal.{begun};
 ghost use Rattle.ep_world.specs.Standing.{Ends, IsLent, IsUnbegun, Plays, StandsFor};
 
 use crate::actors::Actors;
 use crate::bad::{WorldBad, opening_failure};
+use crate::undoing::Remake;
 use ep_event::{Event, Shown};
 use ep_outside::{Crash, Limits, Refused};
 use ep_pad::PadMachine;
@@ -66,6 +67,8 @@ impl<D: Crash> World<D> {
             Event::Login { name } => self.login(name, now),
             Event::Guest { name, read_only } => self.visit(name, read_only, now),
             Event::Edit { name, edit } => self.edit(name, &edit),
+            Event::Undo { name } => self.remake(Remake::Undo, name),
+            Event::Redo { name } => self.remake(Remake::Redo, name),
             Event::Submit { name } => self.submit(name),
             Event::Inject { name, base, change } => self.inject(name, base, change),
             Event::Take { name } => self.take(name, now),

@@ -1,4 +1,5 @@
-//! Tries pads: the steps of a head, who sits in an opening, a pad in memory and one on a disk in memory, and a client.
+//! Tries pads: the steps of a head, who sits in an opening, a pad in memory and one on a disk in memory, a client,
+//! and one that takes back what it did.
 //!
 //! Nothing but tests stands here.
 #![tactic(auto)]
@@ -15,3 +16,5 @@ mod seats;
 mod state;
 #[cfg(test)]
 mod step;
+#[cfg(test)]
+mod undo;

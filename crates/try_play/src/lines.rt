@@ -50,6 +50,8 @@ fn lines(rt: HostRuntime) {
             "inject G 18446744073709551615 Z:1>1+1$\\n",
             "inject [G] [18446744073709551615] [Z:1>1+1$\n]",
         ),
+        ("undo A", "undo [A]"),
+        ("redo A", "redo [A]"),
         ("submit A", "submit [A]"),
         ("take A", "take [A]"),
         ("late A", "late [A]"),
@@ -113,7 +115,8 @@ fn no_lines(rt: HostRuntime) {
         "text -1",
         "text 18446744073709551616",
         "marks A B",
-        "undo A",
+        "undo",
+        "redo A B",
         "LOGIN A",
         " login A",
     ] {

@@ -74,6 +74,10 @@ fn taken(verb: Verb, name: Units, rev: u64, fixed: bool, change: Change) -> Show
     }
 }
 
+fn remade(verb: Verb, name: Units, change: Change) -> Shown {
+    Shown::Remade { verb, name, change }
+}
+
 /// What is shown of a change, and how its line begins.
 fn of_change(row: u8, name: Units, change: Change) -> (Shown, &'static str) {
     match row {
@@ -92,6 +96,8 @@ fn of_change(row: u8, name: Units, change: Change) -> (Shown, &'static str) {
             taken(Verb::Take, name, 10, false, change),
             "take Ann1 rev 10 ",
         ),
+        5 => (remade(Verb::Undo, name, change), "undo Ann1 "),
+        6 => (remade(Verb::Redo, name, change), "redo Ann1 "),
         _ => (
             taken(Verb::Late, name, 1, true, change),
             "late Ann1 rev 1 fixed ",
@@ -108,7 +114,7 @@ fn prints_change(alloc: Global, row: u8) -> Result<bool, ReadBad> {
 
 #[test]
 fn changes(rt: HostRuntime) {
-    for row in 0..6 {
+    for row in 0..8 {
         assert_eq!(rt; prints_change(rt.alloc(), row), Ok(true), "row {row}");
     }
 }

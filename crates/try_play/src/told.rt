@@ -114,6 +114,8 @@ impl Told {
                 self.named(if *read_only { "reader" } else { "guest" }, name)
             }
             Event::Edit { name, edit } => self.edit(name, edit),
+            Event::Undo { name } => self.named("undo", name),
+            Event::Redo { name } => self.named("redo", name),
             Event::Submit { name } => self.named("submit", name),
             Event::Inject { name, .. } => self.named("injected", name),
             Event::Take { name } => self.named("take", name),

@@ -12,7 +12,9 @@ use ep_outside::Failed;
 use ep_run::run;
 use ep_units::{NoMemory, PadId, Units};
 use page::Page;
-use rows::{AFTER, BEFORE, CRASHES_BEFORE_THE_GATE, CRASHES_BEHIND_THE_GATE, KEPT, LOST, ROWS};
+use rows::{
+    AFTER, BEFORE, CRASHES_BEFORE_THE_GATE, CRASHES_BEHIND_THE_GATE, KEPT, LOST, ROWS, UNDOS,
+};
 use std::alloc::Global;
 use std::sync::Wait;
 use std::test::Fail;
@@ -148,6 +150,11 @@ fn scripts(rt: HostRuntime) -> Result<(), Fail> {
         ("take A\n", "error line 1 unknown\n", 3),
         ("frob", "error line 1 syntax\n", 3),
         (
+            "create ab\nguest G\nundo G\n",
+            "create rev 0 Z:1>2+2$ab\nguest G 1.1 rev 0\nerror line 3 unknown\n",
+            3,
+        ),
+        (
             "create ab\n\nlogin A\ninject A 0 Z:1>0$\nhead\n",
             "create rev 0 Z:1>2+2$ab\nlogin A 1.1 rev 0\nerror line 4 unknown\n",
             3,
@@ -202,6 +209,15 @@ fn crashes_within_a_take(rt: HostRuntime) -> Result<(), Fail> {
     }
     for crash in CRASHES_BEHIND_THE_GATE {
         assert!(rt; crash_leads(&rt, rt.alloc(), crash, KEPT)?, "at {crash}");
+    }
+    Ok(())
+}
+
+#[test]
+fn undo_and_redo(rt: HostRuntime) -> Result<(), Fail> {
+    for (script, output) in UNDOS {
+        let case = Case::play(script.as_bytes());
+        assert!(rt; comes_to(&rt, rt.alloc(), case, output, 0)?, "at {script}");
     }
     Ok(())
 }

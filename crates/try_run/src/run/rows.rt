@@ -71,6 +71,30 @@ pub const ROWS: &[(&str, &str)] = &[
     ),
 ];
 
+/// Edits that are taken back, and made again.
+pub const UNDOS: &[(&str, &str)] = &[
+    // another's Z in the midst of what is taken back stays
+    (
+        "create ab\nlogin A\nlogin B\ninsert A 1 XY\nsubmit A\ntake A\npush A\nhear A\npush B\nhear B\ninsert B 2 Z\nsubmit B\ntake B\npush A\nhear A\nundo A\nshow A\nredo A\nshow A\nredo A\n",
+        "create rev 0 Z:1>2+2$ab\nlogin A 1.1 rev 0\nlogin B 1.2 rev 0\ninsert A ok\nsubmit A base 0 Z:3>2=1+2$XY\ntake A rev 1 Z:3>2=1+2$XY\npush A 1\nhear A commit 1\npush B 1\nhear B new 1\ninsert B ok\nsubmit B base 1 Z:5>1=2+1$Z\ntake B rev 2 Z:5>1=2+1$Z\npush A 2\nhear A new 2\nundo A Z:6<2=1-1=1-1$\nshow A rev 2 local \"aZb\\n\"\nredo A Z:4>2=1+1=1+1$XY\nshow A rev 2 local \"aXZYb\\n\"\nredo A none\n",
+    ),
+    // what comes back stands where it stood among what is left
+    (
+        "create abc\nlogin A\nlogin B\ndelete A 1 1\nsubmit A\ntake A\npush A\nhear A\npush B\nhear B\ndelete B 0 1\nsubmit B\ntake B\npush A\nhear A\nundo A\nshow A\n",
+        "create rev 0 Z:1>3+3$abc\nlogin A 1.1 rev 0\nlogin B 1.2 rev 0\ndelete A ok\nsubmit A base 0 Z:4<1=1-1$\ntake A rev 1 Z:4<1=1-1$\npush A 1\nhear A commit 1\npush B 1\nhear B new 1\ndelete B ok\nsubmit B base 1 Z:3<1-1$\ntake B rev 2 Z:3<1-1$\npush A 2\nhear A new 2\nundo A Z:2>1+1$b\nshow A rev 2 local \"bc\\n\"\n",
+    ),
+    // what was inserted and deleted takes two undos
+    (
+        "create b\nlogin A\ninsert A 0 a\ndelete A 0 1\nundo A\nundo A\nshow A\nundo A\n",
+        "create rev 0 Z:1>1+1$b\nlogin A 1.1 rev 0\ninsert A ok\ndelete A ok\nundo A Z:2>1+1$a\nundo A Z:3<1-1$\nshow A rev 0 clean \"b\\n\"\nundo A none\n",
+    ),
+    // edits that set what is there, or remove what isn't
+    (
+        "create ab\nlogin A\nformat A 0 1 k v\nformat A 0 2 k v\nundo A\nundo A\nformat A 0 1 z \nundo A\nredo A\nredo A\nshow A\n",
+        "create rev 0 Z:1>2+2$ab\nlogin A 1.1 rev 0\nformat A ok\nformat A ok\nundo A Z:3>0=1*0=1$\nundo A Z:3>0*0=1$\nformat A ok\nundo A Z:3>0$\nredo A Z:3>0$\nredo A none\nshow A rev 0 local \"ab\\n\"\n",
+    ),
+];
+
 /// What stands before a crash within a take, and what it prints.
 pub const BEFORE: (&str, &str) = (
     "create ab\nlogin A\ninsert A 1 X\nsubmit A\n",

@@ -2,7 +2,7 @@ use Rattle.std.proofs.Common.{◌≡◌, ◌∷◌, [], ℕ, List, length, refl,
 use Rattle.std.specs.Vec.Iter.{into_iter_items}
 use Rattle.ep_event.specs.declared.event.Event.{Event}
 use Rattle.ep_schedule.specs.World.{start}
-use Rattle.ep_schedule.specs.Kepts.{nobodies}
+use Rattle.ep_world.specs.Kepts.{nobodies}
 use Rattle.ep_world.specs.Journal.{begun}
 use Rattle.ep_world.specs.Leading.{Lead}
 use Rattle.ep_world.proofs.Leading.{begins, scheduled}

@@ -1,5 +1,5 @@
 use Rattle.std.proofs.Common.{rules, subst}
-use Rattle.ep_schedule.specs.Kepts.{nobodies}
+use Rattle.ep_world.specs.Kepts.{nobodies}
 use Rattle.ep_schedule.specs.World.{start}
 use Rattle.ep_world.specs.Journal.{begun}
 use Rattle.ep_world.specs.Standing.{StandsFor}

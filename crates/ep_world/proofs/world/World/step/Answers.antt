@@ -112,3 +112,23 @@ pub returns-in-Stop-Some-clause-ends : goal.returns-in-Stop-Some-clause-ends
 returns-in-Stop-Some-clause-ends g c =
     let e : c.args.event ≡ event.Stop (Some c.in-Stop-Some.at) = cc (c.in-Stop-Some.is, c.in-Stop-Some.at-is, c.in-Stop-Some.at-is') in
     subst (λ x. Ends g.D.Disk.told g.D.Device.failures g.D.Disk.stops_alone c.args.self.now c.args.now x c.stop.result c.stop.new.self) (sym e) c.stop.ensures.ends
+
+pub returns-in-Undo-clause-plays : goal.returns-in-Undo-clause-plays
+returns-in-Undo-clause-plays g c =
+    let e : c.args.event ≡ event.Undo c.in-Undo.name = cc (c.in-Undo.is, c.in-Undo.name-is) in
+    subst (λ x. Plays g.D.Disk.told g.D.Device.failures g.D.Disk.stops_alone c.args.self.now c.args.now x c.remake.result c.remake.new.self) (sym e) (c.remake.ensures.plays c.args.now)
+
+pub returns-in-Undo-clause-ends : goal.returns-in-Undo-clause-ends
+returns-in-Undo-clause-ends g c =
+    let e : c.args.event ≡ event.Undo c.in-Undo.name = cc (c.in-Undo.is, c.in-Undo.name-is) in
+    subst (λ x. Ends g.D.Disk.told g.D.Device.failures g.D.Disk.stops_alone c.args.self.now c.args.now x c.remake.result c.remake.new.self) (sym e) (c.remake.ensures.ends c.args.now)
+
+pub returns-in-Redo-clause-plays : goal.returns-in-Redo-clause-plays
+returns-in-Redo-clause-plays g c =
+    let e : c.args.event ≡ event.Redo c.in-Redo.name = cc (c.in-Redo.is, c.in-Redo.name-is) in
+    subst (λ x. Plays g.D.Disk.told g.D.Device.failures g.D.Disk.stops_alone c.args.self.now c.args.now x c.remake-in-Redo.result c.remake-in-Redo.new.self) (sym e) (c.remake-in-Redo.ensures.plays c.args.now)
+
+pub returns-in-Redo-clause-ends : goal.returns-in-Redo-clause-ends
+returns-in-Redo-clause-ends g c =
+    let e : c.args.event ≡ event.Redo c.in-Redo.name = cc (c.in-Redo.is, c.in-Redo.name-is) in
+    subst (λ x. Ends g.D.Disk.told g.D.Device.failures g.D.Disk.stops_alone c.args.self.now c.args.now x c.remake-in-Redo.result c.remake-in-Redo.new.self) (sym e) (c.remake-in-Redo.ensures.ends c.args.now)
