@@ -5,18 +5,15 @@ use crate::desk::granted;
 use crate::given::house;
 use anyhow::Result;
 use ep_api::answer;
-use ep_disk_mem::{MemDraws, MemShelf};
+use ep_disk_mem::MemDraws;
 use ep_groups::DirPort;
-use ep_keep::MapKeeper;
+use ep_outside::{Keeper, Shelf};
 use ep_pad::PadPort;
-use ep_pad_port::House;
+use ep_pad_port::{HouseOf, PadCalls};
 use ep_units::Grant;
 use serde_json::{Value, json};
 use std::alloc::Global;
 use std::sync::Wait;
-
-/// Pads and a directory in memory.
-type MemHouse = House<MemShelf, MapKeeper>;
 
 /// The reply to a request.
 fn replied<R: Wait, P: PadPort, G: DirPort>(
@@ -35,19 +32,6 @@ fn replied<R: Wait, P: PadPort, G: DirPort>(
     let body = answered.reply.body.clone()?;
     let status = answered.reply.status;
     Ok(json!(in alloc; {"body": body, "status": status})?)
-}
-
-// The same with the house's directory.
-fn replied_by<R: Wait, P: PadPort>(
-    rt: &R,
-    alloc: Global,
-    pads: &P,
-    house: &MemHouse,
-    draws: &mut MemDraws<'_>,
-    key: &str,
-    step: &Value,
-) -> Result<Value> {
-    replied(rt, alloc, pads, house, draws, key, step)
 }
 
 /// The session that a login gets, or none where it is refused.
@@ -72,17 +56,17 @@ fn entered<R: Wait, P: PadPort>(
     }
 }
 
-/// What a step is answered.
-fn stepped<R: Wait>(
+/// What a step is answered by a house. That it is both ports is proved of any, and not again of one in memory.
+fn stepped<R: Wait, H: Shelf + Drop, P: PadCalls<H::D>, K: Keeper + Drop>(
     rt: &R,
     alloc: Global,
-    house: &MemHouse,
+    house: &HouseOf<H, P, K>,
     draws: &mut MemDraws<'_>,
     key: &str,
     step: &Value,
 ) -> Result<Value> {
     if step.get("path").is_some() {
-        return replied_by(rt, alloc, house, house, draws, key, step);
+        return replied(rt, alloc, house, house, draws, key, step);
     }
     match granted(rt, alloc, house, step)? {
         Some(grant) => entered(rt, alloc, house, &grant, moment_of(step)?),

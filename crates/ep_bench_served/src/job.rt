@@ -8,9 +8,9 @@ use ep_disk_mem::{MemClock, MemDraws, MemShelf};
 use ep_groups::DirPort;
 use ep_keep::MapKeeper;
 use ep_link::Link;
-use ep_outside::Limits;
+use ep_outside::{Keeper, Limits, Shelf};
 use ep_pad::PadPort;
-use ep_pad_port::House;
+use ep_pad_port::{House, HouseOf, PadCalls};
 use ep_ring::{Bells, Ringing};
 use ep_session::serve_session;
 use ep_units::NoMemory;
@@ -87,10 +87,18 @@ pub struct ServedJob {
     sitting: Sitting<MemHouse>,
 }
 
+// Serves a session on a house, up to its end. That a house is both ports is proved of any, and not again of one in memory.
+fn go_at<R: Wait, H: Shelf + Drop, P: PadCalls<H::D> + Drop, K: Keeper + Drop>(
+    rt: &R,
+    sitting: Sitting<HouseOf<H, P, K>>,
+) {
+    sitting.go(rt);
+}
+
 impl ServedJob {
     /// Serves it, up to its end.
     pub fn go<R: Wait>(self, rt: &R) {
-        self.sitting.go(rt);
+        go_at(rt, self.sitting);
     }
 }
 

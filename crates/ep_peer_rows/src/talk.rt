@@ -4,9 +4,9 @@ use crate::side::{Side, connection};
 use ep_disk_mem::{MemClock, MemDraws, MemShelf, MemSource};
 use ep_groups::DirPort;
 use ep_keep::MapKeeper;
-use ep_outside::Limits;
+use ep_outside::{Keeper, Limits, Shelf};
 use ep_pad::PadPort;
-use ep_pad_port::House;
+use ep_pad_port::{House, HouseOf, PadCalls};
 use ep_peer::{PeerBad, Reason, write_session};
 use ep_session::{End, serve_session};
 use ep_units::{NoMemory, PadId, Units};
@@ -148,15 +148,14 @@ fn serve_on<R: Wait, P: PadPort, G: DirPort>(
     }
 }
 
-// The same by a house's directory.
-fn serve_by<R: Wait, P: PadPort>(
+// The same by a house. That it is both ports is proved of any, and not again of one in memory.
+fn serve_at<R: Wait, H: Shelf + Drop, P: PadCalls<H::D>, K: Keeper + Drop>(
     rt: &R,
     alloc: Global,
-    pads: &P,
-    house: &MemHouse,
+    house: &HouseOf<H, P, K>,
     side: Side,
 ) -> Result<Option<Served>, NoMemory> {
-    serve_on(rt, alloc, pads, house, side)
+    serve_on(rt, alloc, house, house, side)
 }
 
 /// Serves a side on an empty house.
@@ -164,7 +163,7 @@ fn serve<R: Wait>(rt: &R, alloc: Global, side: Side) -> Result<Option<Served>, N
     let shelf = MemShelf::new(alloc, Vec::new(alloc), Vec::new(alloc))?;
     let keeper = MapKeeper::new(alloc, Vec::new(alloc));
     let house = MemHouse::open(alloc, shelf, keeper, LIMITS)?;
-    serve_by(rt, alloc, &house, &house, side)
+    serve_at(rt, alloc, &house, side)
 }
 
 /// Writes a script to the pad on a side.

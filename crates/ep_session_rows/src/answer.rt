@@ -10,9 +10,11 @@ use ep_disk_mem::{MemClock, MemDraws, MemFile, MemShelf};
 use ep_groups::DirPort;
 use ep_keep::MapKeeper;
 use ep_link::{Coming, MemLink};
-use ep_outside::{Limits, Text};
+use ep_outside::{Keeper, Limits, Shelf, Text};
 use ep_pad::PadPort;
+use ep_pad_port::{HouseOf, PadCalls};
 use ep_session::serve_session;
+use ep_units::PadId;
 use serde_json::error::Category;
 use serde_json::{Map, Value};
 use std::alloc::{AllocError, Global};
@@ -145,6 +147,28 @@ fn served<R: Wait, P: PadPort, G: DirPort>(
     told(alloc, &report, link.link.passed())
 }
 
+// The same of a house: that it is both ports is proved of any.
+fn served_at<R: Wait, H: Shelf + Drop, P: PadCalls<H::D>, K: Keeper + Drop>(
+    rt: &R,
+    alloc: Global,
+    house: &HouseOf<H, P, K>,
+    link: &mut Played<'_>,
+    request: &Value,
+) -> Result<Map<String, Value>, Stop> {
+    served(rt, alloc, house, house, link, request)
+}
+
+// What is told of a pad of a house.
+fn put_standing_at<R: Wait, H: Shelf + Drop, P: PadCalls<H::D>, K: Keeper + Drop>(
+    rt: &R,
+    alloc: Global,
+    house: &HouseOf<H, P, K>,
+    asked: &PadId,
+    members: &mut Map<String, Value>,
+) -> Result<(), Stop> {
+    put_standing(rt, alloc, house, asked, members)
+}
+
 fn play<R: Wait>(rt: &R, ports: &Ports, request: &Value) -> Result<Map<String, Value>, Stop> {
     let steps = array(request, "link")?;
     let fails = fails(ports.alloc, request)?;
@@ -155,7 +179,7 @@ fn play<R: Wait>(rt: &R, ports: &Ports, request: &Value) -> Result<Map<String, V
         steps,
     };
     let Ports { alloc, house } = ports;
-    served(rt, *alloc, house, house, &mut link, request)
+    served_at(rt, *alloc, house, &mut link, request)
 }
 
 /// What is told of the pad that is asked about behind the session.
@@ -169,7 +193,7 @@ fn put_asked<R: Wait>(
         return Ok(());
     }
     let asked = pad(ports.alloc, text(request, "asks")?)?;
-    put_standing(rt, ports.alloc, &ports.house, &asked, members)
+    put_standing_at(rt, ports.alloc, &ports.house, &asked, members)
 }
 
 fn make_calls<R: Wait>(rt: &R, ports: &Ports, calls: &[Value]) -> Result<(), Stop> {

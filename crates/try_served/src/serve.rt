@@ -7,8 +7,8 @@ use doors::{Api, Caller, Callers};
 use ep_disk_mem::{MemClock, MemDraws, MemShelf};
 use ep_doors::{Host, Job, MemSpawner, Served, Spawner, ThreadSpawner, serve, start_all};
 use ep_keep::MapKeeper;
-use ep_outside::Limits;
-use ep_pad_port::House;
+use ep_outside::{Keeper, Limits, Shelf};
+use ep_pad_port::{House, HouseOf, PadCalls};
 use ep_serve::{Server, Serving};
 use ep_units::NoMemory;
 use std::alloc::Global;
@@ -48,10 +48,19 @@ impl Drop for MemJob {
     }
 }
 
+// What is done by a house, and by a server of one. That a house is both ports is proved of any, and not again of one in
+// memory.
+fn go_at<R: Wait, H: Shelf + Drop, P: PadCalls<H::D> + Drop, K: Keeper + Drop>(
+    rt: &R,
+    work: Serving<HouseOf<H, P, K>, WireLink, Api, MemClock, MemDraws<'static>>,
+) {
+    work.go(rt);
+}
+
 impl Job for MemJob {
     fn go<R: Wait>(self, rt: &R) {
         let MemJob { work } = self;
-        work.go(rt);
+        go_at(rt, work);
     }
 }
 
