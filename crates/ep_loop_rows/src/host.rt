@@ -5,7 +5,7 @@ use ep_doors::{Host, Job};
 use ep_keep::MapKeeper;
 use ep_net::WakeEar;
 use ep_outside::Limits;
-use ep_pad_port::House;
+use ep_pad_port::{House, HouseOf};
 use ep_serve::Server;
 use ep_units::NoMemory;
 use std::alloc::Global;
@@ -21,6 +21,9 @@ const LIMITS: Limits = Limits {
     openings: 0,
     pads: 8,
 };
+
+/// A server of a house.
+pub type ServerOf<H, P, K> = Server<HouseOf<H, P, K>, WakeEar, MemClock, MemDraws<'static>>;
 
 /// A server of pads and a directory in memory.
 pub type MemServer = Server<House<MemShelf, MapKeeper>, WakeEar, MemClock, MemDraws<'static>>;

@@ -8,10 +8,12 @@ mod host;
 mod outcome;
 
 use crate::few::Few;
-use crate::host::{Absent, server};
+use crate::host::{Absent, ServerOf, server};
 use crate::outcome::outcome;
 use anyhow::{Context, Result};
 use ep_net::{Bounds, TcpDoors};
+use ep_outside::{Keeper, Shelf};
+use ep_pad_port::PadCalls;
 use ep_units::NoMemory;
 use std::alloc::Global;
 use std::net::{Net, SocketAddr};
@@ -24,6 +26,19 @@ use std::time::Clock;
 // The system chooses the port.
 const ANY: &str = "127.0.0.1:0";
 
+/// Serves who comes by a server of a house. That a house is both ports is proved of any, and not again of one in memory.
+fn serve_by<R, H: Shelf + Drop, P: PadCalls<H::D> + Drop, K: Keeper + Drop>(
+    rt: &R,
+    alloc: Global,
+    few: &mut Few<R>,
+    host: &mut ServerOf<H, P, K>,
+) -> Result<String, NoMemory>
+where
+    R: Wait + Threads + Net + RandomSource + Clock + Copy + Drop,
+{
+    outcome(rt, alloc, "serve a b d k", "", few, host)
+}
+
 /// Serves one caller.
 fn serve<R>(rt: &R, alloc: Global, doors: TcpDoors<R>) -> Result<String, NoMemory>
 where
@@ -31,7 +46,7 @@ where
 {
     let mut host = server(alloc)?;
     let mut few = Few { doors, left: 1 };
-    outcome(rt, alloc, "serve a b d k", "", &mut few, &mut host)
+    serve_by(rt, alloc, &mut few, &mut host)
 }
 
 /// Writes these lines to the pad of the server at an address.

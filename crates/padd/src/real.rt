@@ -7,8 +7,8 @@ use crate::spoken::{Spoken, spoken_by};
 use ep_doors::{Host, Job, ThreadSpawner};
 use ep_edge::{StdSink, StdSource, SysClock, SysDraws};
 use ep_net::{ApiStream, Bounds, TcpDoors, WakeEar, WsLink, connections_under};
-use ep_outside::Limits;
-use ep_pad_port::House;
+use ep_outside::{Keeper, Limits, Shelf};
+use ep_pad_port::{House, HouseOf, PadCalls};
 use ep_run::{Status, run};
 use ep_serve::{Server, Serving};
 use ep_shown::ShownShelf;
@@ -39,7 +39,18 @@ const LIMITS: Limits = Limits {
 /// The pads of a folder, and their directory, whose database another thread has.
 type RealHouse<R> = House<RealShelf, RealKeeper<R>>;
 
-/// What `ep_serve` does for a caller.
+/// What `ep_serve` does for a caller of a house, and the server of one.
+type WorkOf<R, H, P, K> = Serving<
+    HouseOf<H, P, K>,
+    WsLink<R>,
+    ApiStream<R>,
+    SysClock<R>,
+    SysDraws<R>,
+>;
+
+type ServerOf<R, H, P, K> = Server<HouseOf<H, P, K>, WakeEar, SysClock<R>, SysDraws<R>>;
+
+/// What is done for a caller of a folder's pads.
 type RealWork<R> = Serving<RealHouse<R>, WsLink<R>, ApiStream<R>, SysClock<R>, SysDraws<R>>;
 
 /// What is done for a caller. Its type says nothing of the house, so that those that stand on it are short.
@@ -53,10 +64,41 @@ impl<R: Wait + Net + RandomSource + Clock + Copy + Drop> Drop for RealJob<R> {
     }
 }
 
+// What is done by a house, and by a server of one. That a house is both ports is proved of any, and not again of a folder's.
+fn go_at<W: Wait, R, H: Shelf + Drop, P: PadCalls<H::D> + Drop, K: Keeper + Drop>(
+    rt: &W,
+    work: WorkOf<R, H, P, K>,
+)
+where
+    R: Wait + Net + RandomSource + Clock + Copy + Drop,
+{
+    work.go(rt);
+}
+
+fn pad_at<R, H: Shelf + Drop, P: PadCalls<H::D> + Drop, K: Keeper + Drop>(
+    server: &mut ServerOf<R, H, P, K>,
+    link: WsLink<R>,
+) -> Result<WorkOf<R, H, P, K>, NoMemory>
+where
+    R: Wait + Net + RandomSource + Clock + Copy + Drop,
+{
+    server.pad(link)
+}
+
+fn api_at<R, H: Shelf + Drop, P: PadCalls<H::D> + Drop, K: Keeper + Drop>(
+    server: &mut ServerOf<R, H, P, K>,
+    caller: ApiStream<R>,
+) -> Result<WorkOf<R, H, P, K>, NoMemory>
+where
+    R: Wait + Net + RandomSource + Clock + Copy + Drop,
+{
+    server.api(caller)
+}
+
 impl<R: Wait + Net + RandomSource + Clock + Copy + Drop> Job for RealJob<R> {
     fn go<W: Wait>(self, rt: &W) {
         let RealJob { work } = self;
-        work.go(rt);
+        go_at(rt, work);
     }
 }
 
@@ -72,13 +114,13 @@ impl<R: Wait + Net + RandomSource + Clock + Copy + Drop> Host<WsLink<R>, ApiStre
 
     fn pad(&mut self, link: WsLink<R>) -> Result<RealJob<R>, NoMemory> {
         Ok(RealJob {
-            work: self.server.pad(link)?,
+            work: pad_at(&mut self.server, link)?,
         })
     }
 
     fn api(&mut self, caller: ApiStream<R>) -> Result<RealJob<R>, NoMemory> {
         Ok(RealJob {
-            work: self.server.api(caller)?,
+            work: api_at(&mut self.server, caller)?,
         })
     }
 }

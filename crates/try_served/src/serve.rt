@@ -52,7 +52,7 @@ impl Drop for MemJob {
 // memory.
 fn go_at<R: Wait, H: Shelf + Drop, P: PadCalls<H::D> + Drop, K: Keeper + Drop>(
     rt: &R,
-    work: Serving<HouseOf<H, P, K>, WireLink, Api, MemClock, MemDraws<'static>>,
+    work: WorkOf<H, P, K>,
 ) {
     work.go(rt);
 }
@@ -75,18 +75,36 @@ impl Drop for MemServer {
     }
 }
 
+type ServerOf<H, P, K> = Server<HouseOf<H, P, K>, Bell, MemClock, MemDraws<'static>>;
+
+type WorkOf<H, P, K> = Serving<HouseOf<H, P, K>, WireLink, Api, MemClock, MemDraws<'static>>;
+
+fn pad_at<H: Shelf + Drop, P: PadCalls<H::D> + Drop, K: Keeper + Drop>(
+    server: &mut ServerOf<H, P, K>,
+    link: WireLink,
+) -> Result<WorkOf<H, P, K>, NoMemory> {
+    server.pad(link)
+}
+
+fn api_at<H: Shelf + Drop, P: PadCalls<H::D> + Drop, K: Keeper + Drop>(
+    server: &mut ServerOf<H, P, K>,
+    caller: Api,
+) -> Result<WorkOf<H, P, K>, NoMemory> {
+    server.api(caller)
+}
+
 impl Host<WireLink, Api> for MemServer {
     type Work = MemJob;
 
     fn pad(&mut self, link: WireLink) -> Result<MemJob, NoMemory> {
         Ok(MemJob {
-            work: self.server.pad(link)?,
+            work: pad_at(&mut self.server, link)?,
         })
     }
 
     fn api(&mut self, caller: Api) -> Result<MemJob, NoMemory> {
         Ok(MemJob {
-            work: self.server.api(caller)?,
+            work: api_at(&mut self.server, caller)?,
         })
     }
 }
