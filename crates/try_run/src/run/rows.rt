@@ -24,7 +24,7 @@ pub const ROWS: &[(&str, &str)] = &[
     ),
     (
         "create ab\nlogin A\nlogin B\nformat A 0 1 color red\nformat B 0 1 color blue\nsubmit A\nsubmit B\ntake B\ntake A\nmarks\n",
-        "create rev 0 Z:1>2+2$ab\nlogin A 1.1 rev 0\nlogin B 1.2 rev 0\nformat A ok\nformat B ok\nsubmit A base 0 Z:3>0*0=1$\nsubmit B base 0 Z:3>0*0=1$\ntake B rev 1 Z:3>0*0=1$\ntake A rev 2 Z:3>0$\nmarks 2 *0+1|1+2 {\"nextNum\":1,\"numToAttrib\":{\"0\":[\"color\",\"blue\"]}}\n",
+        "create rev 0 Z:1>2+2$ab\nlogin A 1.1 rev 0\nlogin B 1.2 rev 0\nformat A ok\nformat B ok\nsubmit A base 0 Z:3>0*0=1$\nsubmit B base 0 Z:3>0*0=1$\ntake B rev 1 Z:3>0*0=1$\ntake A nop 1\nmarks 1 *0+1|1+2 {\"nextNum\":1,\"numToAttrib\":{\"0\":[\"color\",\"blue\"]}}\n",
     ),
     // an edit that cuts a pair
     (
