@@ -1,0 +1,4 @@
+pub mod Front
+pub mod Floats
+pub mod Depths
+pub mod Spelled
