@@ -1,0 +1,4 @@
+pub mod Sameness
+pub mod Standing
+pub mod Telling
+pub mod Births
