@@ -1,6 +1,6 @@
 -- An exported history nests few objects.
 use Rattle.std.proofs.Common.{◌≡◌, ℕ, suc, ◌≤◌, Bool, List, [], ◌∷◌, ap, arith}
-use Rattle.std.specs.Prelude.{codes, decimal}
+use Rattle.std.specs.Prelude.{decimal}
 use Rattle.std.specs.declared.cmp.Ordering.{Ordering}
 use Rattle.std.specs.declared.cmp.Ordering.TheVariants.{Less, Equal, Greater}
 use Rattle.std.specs.Ordering.{nat_cmp, match_ordering}
@@ -9,7 +9,7 @@ use Rattle.serde_json.specs.Data.{Data, Members, no_members, member, put, depth,
 use Rattle.serde_json.specs.Read.{max_depth}
 use Rattle.ep_units.specs.Text.{Text}
 use Rattle.ep_attr.specs.AttrMap.{Pair}
-use Rattle.ep_pool.specs.Json.{pair_json, numbered, pool_json}
+use Rattle.ep_pool.specs.Json.{pair_json, numbered}
 use Rattle.ep_cs.specs.Doc.{Doc}
 use Rattle.ep_history.specs.declared.rev.Rev.{Rev}
 use Rattle.ep_export.specs.Keys.{pad_key, rev_key}

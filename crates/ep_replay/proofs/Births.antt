@@ -1,7 +1,5 @@
 -- Revisions that each may stand behind those before them are a birth's, where the last leaves a final newline.
-use Rattle.std.proofs.Common.{◌≡◌, ℕ, Bool, false, List, [], ◌∷◌, ◌++◌, refl, sym, ap, ◌∙◌, subst, append_assoc, append-nil}
-use Rattle.ep_cs.specs.Doc.{Doc}
-use Rattle.ep_cs.specs.Edit.{apply}
+use Rattle.std.proofs.Common.{◌≡◌, false, List, [], ◌∷◌, ◌++◌, sym, ap, ◌∙◌, subst, append_assoc, append-nil}
 use Rattle.ep_history.specs.declared.rev.Rev.{Rev}
 use Rattle.ep_history.specs.History.{lacks_newline, made, newline}
 use Rattle.ep_past.specs.Revisions.{AreLater, AreRevisions}

@@ -1,8 +1,6 @@
 -- Changes of as many units with the same operations and the same inserted units are one.
-use Rattle.std.proofs.Common.{◌≡◌, ℕ, Bool, true, false, ◌&&◌, ◌==◌, List, [], ◌∷◌, length, refl, sym, ap, ◌∙◌, subst, T, arith}
+use Rattle.std.proofs.Common.{◌≡◌, ℕ, true, ◌==◌, List, [], ◌∷◌, length, refl, sym, ap, ◌∙◌, subst, T, arith}
 use Rattle.std.proofs.lemmas.Bool.Decides.{nat_tests}
-use Rattle.ep_units.specs.Text.{Text}
-use Rattle.ep_attr.specs.AttrMap.{AttrMap, same_map}
 use Rattle.ep_attr.proofs.SameMap.{both_true, first_true, second_true, exact_map, same_map_itself}
 use Rattle.ep_cs.specs.Change.{Change, bank_of, change_of}
 use Rattle.ep_cs.specs.Normal.{same_kind}

@@ -1,10 +1,8 @@
 -- What stands behind some revisions, and one more behind them.
-use Rattle.std.proofs.Common.{◌≡◌, ℕ, suc, ◌<◌, Bool, true, false, List, [], ◌∷◌, ◌++◌, ◌↔◌, IsTrue, IfOk, Result, Ok, Err, length, refl, sym, ap, ◌∙◌, subst, T, arith}
+use Rattle.std.proofs.Common.{◌≡◌, ℕ, ◌<◌, Bool, List, [], ◌∷◌, ◌++◌, ◌↔◌, IsTrue, IfOk, Result, Ok, Err, length, refl, subst, arith}
 use Rattle.ep_cs.specs.Doc.{Doc, text_of}
-use Rattle.ep_cs.specs.Change.{Change, stamped}
+use Rattle.ep_cs.specs.Change.{stamped}
 use Rattle.ep_cs.specs.Edit.{apply}
-use Rattle.ep_units.specs.Text.{Text, is_well_formed}
-use Rattle.ep_units.specs.Clean.{clean}
 use Rattle.ep_units.specs.declared.no_memory.NoMemory.{NoMemory}
 use Rattle.ep_history.specs.declared.rev.Rev.{Rev}
 use Rattle.ep_history.specs.History.{first_rev, made, newline, newline_edit, newline_rev, nobody}

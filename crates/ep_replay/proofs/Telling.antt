@@ -1,12 +1,11 @@
 -- What tests tell of revisions.
-use Rattle.std.proofs.Common.{◌≡◌, ℕ, Bool, true, false, ◌↔◌, IsTrue, IfOk, Result, Ok, Err, List, [], ◌∷◌, length, refl, sym, ap, ◌∙◌, subst, T}
+use Rattle.std.proofs.Common.{◌≡◌, ℕ, Bool, true, false, ◌↔◌, IsTrue, IfOk, Result, Ok, Err, length, sym, ap, ◌∙◌, subst, T}
 use Rattle.ep_units.specs.Text.{Text, text_eq}
 use Rattle.ep_units.specs.declared.no_memory.NoMemory.{NoMemory}
 use Rattle.ep_attr.proofs.Maps.{exact_test}
 use Rattle.ep_attr.proofs.SameMap.{itself}
 use Rattle.ep_cs.specs.Change.{Change, bank_of}
 use Rattle.ep_cs.specs.Doc.{Doc}
-use Rattle.ep_cs.specs.EditFits.{is_edit}
 use Rattle.ep_cs.specs.Fits.{Fits}
 use Rattle.ep_cs.specs.NormalRuns.{IsNormal}
 use Rattle.ep_history.specs.declared.rev.Rev.{Rev}

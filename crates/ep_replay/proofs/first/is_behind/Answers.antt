@@ -1,4 +1,4 @@
-use Rattle.std.proofs.Common.{◌≡◌, ◌∙◌, sym, refl}
+use Rattle.std.proofs.Common.{◌∙◌, sym, refl}
 use Rattle.ep_replay.proofs.Telling.{closing_answer, told_ended}
 use Rattle.ep_replay.proofs.first.is_behind.Goals as goal
 

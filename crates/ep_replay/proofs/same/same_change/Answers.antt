@@ -1,4 +1,4 @@
-use Rattle.std.proofs.Common.{◌≡◌, ◌∙◌, sym, arith}
+use Rattle.std.proofs.Common.{◌∙◌, sym, arith}
 use Rattle.ep_replay.proofs.Sameness.{same_number, same_ops_true}
 use Rattle.ep_replay.proofs.Telling.{told_change}
 use Rattle.ep_replay.proofs.same.same_change.Goals as goal
