@@ -3,6 +3,7 @@
 ghost use Rattle.std.specs.Prelude.{◌≡◌};
 
 use crate::body::Body;
+use crate::keeping::keep_cut_off;
 use crate::mending::mended;
 use crate::place::Place;
 use ep_outside::{Device, Disk, Failed};
@@ -15,6 +16,8 @@ use std::io;
 /// A call that failed may have done a part of its work. After a sync that failed the file is in doubt: the system may
 /// have dropped what it could not write, and would say of the next sync that all is well. So that one writes the file
 /// anew, as it reads, in its own place. Where it can't, it fails, and the file stays in doubt.
+///
+/// A cut that would take more away than an append that broke off keeps the file as it is beside itself first.
 pub struct FileDisk<R: Files<File = File>> {
     files: R,
     place: Place,
@@ -123,7 +126,7 @@ impl<R: Files<File = File>> Disk for FileDisk<R> {
 
     fn cut(&mut self, to: u64) -> Result<(), Failed> {
         self.calls -= 1;
-        match self.body.cut(to) {
+        match self.cut_body(to) {
             Ok(()) => Ok(()),
             Err(_) => Err(self.fault()),
         }
@@ -165,6 +168,14 @@ impl<R: Files<File = File>> FileDisk<R> {
             self.place.mark(&self.files);
         }
         synced
+    }
+
+    // Where more would go than an append that broke off, the file is kept beside itself first.
+    fn cut_body(&self, to: u64) -> io::Result<()> {
+        if let Body::File(file) = &self.body {
+            keep_cut_off(&self.files, &self.place, file, to, self.body.length()?)?;
+        }
+        self.body.cut(to)
     }
 
     // Counts a fault.

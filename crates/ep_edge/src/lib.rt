@@ -8,6 +8,7 @@
 mod body;
 mod file_disk;
 mod file_shelf;
+mod keeping;
 mod mending;
 mod naming;
 mod ordered;

@@ -15,8 +15,8 @@ fn copy_piece(from: &File, to: &File, at: u64, room: &mut [u8]) -> io::Result<()
     to.write_all_at(room, at)
 }
 
-// Copies so many bytes of a file into an empty one.
-fn copy(from: &File, to: &File, length: u64) -> io::Result<()> {
+/// Copies so many bytes of a file into an empty one.
+pub(crate) fn copy(from: &File, to: &File, length: u64) -> io::Result<()> {
     let mut room = [0; PIECE];
     let rest = length % PIECE as u64;
     for piece in 0..length / PIECE as u64 {

@@ -3,20 +3,34 @@
 use ep_units::NoMemory;
 use std::alloc::Global;
 use std::fs::{File, Files, OpenOptions};
-use std::io::ErrorKind;
+use std::io::{Error, ErrorKind};
 use std::os::unix::fs::OpenOptionsExt;
 use std::{fs, io};
 
 // Read and written by the owner alone.
 pub(crate) const OWNER_ALONE: u32 = 0o600;
 
+// So many files are kept beside one at most.
+const MOST_KEPT: u32 = 1_000_000;
+
 /// The path of an entry of a folder.
 pub(crate) fn path_in(alloc: Global, folder: &str, name: &str) -> Result<String, NoMemory> {
     Ok(format!(in alloc; "{folder}/{name}")?)
 }
 
+// A file that wasn't there, open for reading and writing.
+fn new_file<R: Files<File = File>>(files: &R, path: &str) -> io::Result<File> {
+    OpenOptions::new()
+        .read(true)
+        .write(true)
+        .create_new(true)
+        .mode(OWNER_ALONE)
+        .open(files, path)
+}
+
 /// The paths of a file, of its folder, and of the file that is to take its place.
 pub struct Place {
+    alloc: Global,
     folder: String,
     path: String,
     mending: String,
@@ -25,6 +39,7 @@ pub struct Place {
 impl Drop for Place {
     fn drop(self) {
         let Place {
+            alloc: _,
             folder: _,
             path: _,
             mending: _,
@@ -36,6 +51,7 @@ impl Place {
     /// The place of this name in a folder.
     pub fn new(alloc: Global, folder: &str, name: &str) -> Result<Place, NoMemory> {
         Ok(Place {
+            alloc,
             folder: String::from_str(alloc, folder)?,
             path: path_in(alloc, folder, name)?,
             mending: format!(in alloc; "{folder}/{name}.mending")?,
@@ -67,17 +83,39 @@ impl Place {
             Err(error) if error.kind() != ErrorKind::NotFound => return Err(error),
             _ => {}
         }
-        OpenOptions::new()
-            .read(true)
-            .write(true)
-            .create_new(true)
-            .mode(OWNER_ALONE)
-            .open(files, self.mending.as_str())
+        new_file(files, self.mending.as_str())
     }
 
     /// The new file takes the place of this one, for good.
     pub(crate) fn replace<R: Files<File = File>>(&self, files: &R) -> io::Result<()> {
         fs::rename(files, self.mending.as_str(), self.path.as_str())?;
+        self.sync_folder(files)
+    }
+
+    /// The names in the folder are there for good.
+    pub(crate) fn sync_folder<R: Files<File = File>>(&self, files: &R) -> io::Result<()> {
         File::open(files, self.folder.as_str())?.sync_all()
+    }
+
+    // The path of the file of this number that is kept beside this one.
+    fn numbered(&self, number: u32) -> Result<String, NoMemory> {
+        let path = self.path.as_str();
+        Ok(format!(in self.alloc; "{path}.cut-{number}")?)
+    }
+
+    /// A new file beside this one, open for reading and writing, with its path. That is this one's with `.cut-N` behind it,
+    /// of the first free N.
+    pub(crate) fn beside<R: Files<File = File>>(&self, files: &R) -> io::Result<(File, String)> {
+        for number in 1..MOST_KEPT {
+            let Ok(path) = self.numbered(number) else {
+                return Err(Error::from(ErrorKind::OutOfMemory));
+            };
+            match new_file(files, path.as_str()) {
+                Err(error) if error.kind() == ErrorKind::AlreadyExists => {}
+                Err(error) => return Err(error),
+                Ok(file) => return Ok((file, path)),
+            }
+        }
+        Err(Error::from(ErrorKind::AlreadyExists))
     }
 }

@@ -9,6 +9,8 @@ mod file_shelf;
 #[cfg(test)]
 mod folders;
 #[cfg(test)]
+mod keeping;
+#[cfg(test)]
 mod mending;
 #[cfg(test)]
 mod naming;
