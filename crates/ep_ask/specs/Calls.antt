@@ -1,5 +1,5 @@
 -- The table of functions: which parameters each takes, in which order they are missed and refused, and the call that they make.
-use Rattle.std.specs.Prelude.{ℕ, ◌≡◌, true, List, Ok}
+use Rattle.std.specs.Prelude.{ℕ, ◌≡◌, true, List, [], unwrap_or, Ok}
 use Rattle.ep_units.specs.Text.{is_well_formed}
 use Rattle.ep_units.specs.Utf8.{units_of}
 use Rattle.ep_outside.specs.declared.keeper.Pair.{Pair}
@@ -29,10 +29,11 @@ call_of function.CreateGroupPad ps = do
   group ← needed GroupId ps
   name ← needed PadName ps
   Ok (call.CreateGroupPad (units_of group) (units_of name) (text_or Text ps))
-call_of function.CreateAuthor ps = Ok (call.CreateAuthor (text_or Name ps))
+call_of function.CreateAuthor ps = text_if Name ps >>= λ name. Ok (call.CreateAuthor (unwrap_or name []))
 call_of function.CreateAuthorIfNotExistsFor ps = do
   mapper ← needed AuthorMapper ps
-  Ok (call.CreateAuthorIfNotExistsFor (units_of mapper) (text_if Name ps))
+  name ← text_if Name ps
+  Ok (call.CreateAuthorIfNotExistsFor (units_of mapper) name)
 call_of function.GetAuthorName ps = needed_text AuthorId ps >>= λ t. Ok (call.GetAuthorName t)
 call_of function.CreateSession ps = do
   group ← needed GroupId ps

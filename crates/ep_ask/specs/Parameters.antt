@@ -1,5 +1,5 @@
 -- Parameters of a request, and what their texts say.
-use Rattle.std.specs.Prelude.{ℕ, ◌^◌, nat_lt, Bool, true, false, ◌&&◌, List, [], ◌∷◌, find, codes, bytes_eq, if◌then◌else◌, Option, Some, None, option_map, unwrap_or, Result, Ok, Err}
+use Rattle.std.specs.Prelude.{ℕ, ◌^◌, nat_lt, Bool, true, false, ◌&&◌, List, [], ◌∷◌, length, find, codes, bytes_eq, if◌then◌else◌, Option, Some, None, option_map, unwrap_or, Result, Ok, Err}
 use Rattle.std.specs.Option.{ok_or}
 use Rattle.std.specs.Str.{all_ascii_digits}
 use Rattle.std.specs.Str.Parse.{digits_value}
@@ -26,17 +26,35 @@ Err e >>= f = Err e
 abbrev pub value_of : Param → List Pair → Option (List ℕ)
 value_of p pairs = option_map (λ q. q.value) (find (λ q. bytes_eq q.key (param_name p)) pairs)
 
+-- what the directory keeps or looks up: ids, mappers and names
+abbrev pub is_kept : Param → Bool
+is_kept param.GroupId = true
+is_kept param.GroupMapper = true
+is_kept param.AuthorId = true
+is_kept param.AuthorMapper = true
+is_kept param.Name = true
+is_kept param.SessionId = true
+is_kept _ = false
+
+-- of these each has at most 1,024 bytes
+abbrev pub short : Param → List ℕ → Read (List ℕ)
+short p value = if is_kept p && nat_lt 1024 (length value) then Err (NotValid p) else Ok value
+
 -- the value of a parameter that must be there
 abbrev pub needed : Param → List Pair → Read (List ℕ)
-needed p pairs = ok_or (value_of p pairs) (Missing p)
+needed p pairs = ok_or (value_of p pairs) (Missing p) >>= λ value. short p value
 
 -- the units of a parameter, if it is there
-abbrev pub text_if : Param → List Pair → Option Text
-text_if p pairs = option_map units_of (value_of p pairs)
+abbrev pub text_of : Param → Option (List ℕ) → Read (Option Text)
+text_of p None = Ok None
+text_of p (Some value) = short p value >>= λ kept. Ok (Some (units_of kept))
+
+abbrev pub text_if : Param → List Pair → Read (Option Text)
+text_if p pairs = text_of p (value_of p pairs)
 
 -- the units of a parameter, or no text
 abbrev pub text_or : Param → List Pair → Text
-text_or p pairs = unwrap_or (text_if p pairs) []
+text_or p pairs = unwrap_or (option_map units_of (value_of p pairs)) []
 
 -- decimal digits, one or more
 abbrev pub is_numeral : List ℕ → Bool

@@ -4,7 +4,7 @@ ghost use Rattle.std.specs.Prelude.{◌≡◌, ◌≢◌, Ok, Err, IfOk, IfErr, 
 ghost use Rattle.std.specs.Option.{option_copied};
 ghost use Rattle.ep_units.specs.PadId.{has_group};
 ghost use Rattle.ep_units.specs.Text.{is_well_formed};
-ghost use Rattle.ep_ask.specs.Parameters.{boolean, grouped, lone_pad, needed, number, number_if, number_in, pad, text_if, text_or, value_of};
+ghost use Rattle.ep_ask.specs.Parameters.{boolean, grouped, is_kept, lone_pad, needed, number, number_if, number_in, pad, short, text_if, text_or, value_of};
 
 use crate::bad::ApiBad;
 use crate::param::Param;
@@ -21,22 +21,52 @@ pub fn value_of(param: Param, pairs: &[Pair]) -> Option<&str>
     Some(found.value.as_str())
 }
 
+/// What the directory keeps or looks up has at most so many bytes.
+const MOST_BYTES: usize = 1_024;
+
+/// The directory keeps it, or looks it up: an id, a mapper or a name.
+fn is_kept(param: Param) -> bool
+    ensures { result ≡ is_kept param }
+{
+    matches!(
+        param,
+        Param::GroupId
+            | Param::GroupMapper
+            | Param::AuthorId
+            | Param::AuthorMapper
+            | Param::Name
+            | Param::SessionId
+    )
+}
+
+/// The value of a parameter, where it isn't too long.
+fn short(param: Param, value: &str) -> Result<&str, ApiBad>
+    ensures { MatchResult result (λ v. short param value.now ≡ Ok v.now) (λ e. short param value.now ≡ Err e) }
+{
+    if is_kept(param) && value.len() > MOST_BYTES {
+        Err(ApiBad::NotValid(param))
+    } else {
+        Ok(value)
+    }
+}
+
 /// The value of a parameter that must be there.
 pub fn needed(param: Param, pairs: &[Pair]) -> Result<&str, ApiBad>
     ensures { MatchResult result (λ v. needed param pairs.now ≡ Ok v.now) (λ e. needed param pairs.now ≡ Err e) }
 {
     match value_of(param, pairs) {
-        Some(value) => Ok(value),
+        Some(value) => short(param, value),
         None => Err(ApiBad::Missing(param)),
     }
 }
 
 /// The units of a parameter, if it is there.
-pub fn text_if(alloc: Global, param: Param, pairs: &[Pair]) -> Result<Option<Units>, NoMemory>
-    ensures { IfOk result (λ text. text ≡ text_if param pairs.now) }
+pub fn text_if(alloc: Global, param: Param, pairs: &[Pair]) -> Result<Option<Units>, ApiBad>
+    ensures ok { IfOk result (λ text. text_if param pairs.now ≡ Ok text) }
+    ensures err { IfErr result (λ e. e ≢ ApiBad.NoMemory → text_if param pairs.now ≡ Err e) }
 {
     match value_of(param, pairs) {
-        Some(value) => Ok(Some(Units::from_str(alloc, value)?)),
+        Some(value) => Ok(Some(Units::from_str(alloc, short(param, value)?)?)),
         None => Ok(None),
     }
 }

@@ -48,6 +48,31 @@ fn create_group_pad(alloc: Global, pairs: &[Pair]) -> Result<Call, ApiBad>
     })
 }
 
+fn create_author(alloc: Global, pairs: &[Pair]) -> Result<Call, ApiBad>
+    ensures ok { IfOk result (λ c. call_of Function.CreateAuthor pairs.now ≡ Ok c) }
+    ensures err { IfErr result (λ e. e ≢ ApiBad.NoMemory → call_of Function.CreateAuthor pairs.now ≡ Err e) }
+    ensures whole { IfOk result HasWholeText }
+{
+    let name = match text_if(alloc, Param::Name, pairs)? {
+        Some(name) => name,
+        None => Units::new(alloc),
+    };
+    Ok(Call::CreateAuthor { name })
+}
+
+fn create_mapped_author(alloc: Global, pairs: &[Pair]) -> Result<Call, ApiBad>
+    ensures ok { IfOk result (λ c. call_of Function.CreateAuthorIfNotExistsFor pairs.now ≡ Ok c) }
+    ensures err { IfErr result (λ e. e ≢ ApiBad.NoMemory → call_of Function.CreateAuthorIfNotExistsFor pairs.now ≡ Err e) }
+    ensures whole { IfOk result HasWholeText }
+{
+    let mapper = needed(Param::AuthorMapper, pairs)?;
+    let name = text_if(alloc, Param::Name, pairs)?;
+    Ok(Call::CreateAuthorIfNotExistsFor {
+        mapper: Units::from_str(alloc, mapper)?,
+        name,
+    })
+}
+
 fn create_session(alloc: Global, pairs: &[Pair]) -> Result<Call, ApiBad>
     ensures ok { IfOk result (λ c. call_of Function.CreateSession pairs.now ≡ Ok c) }
     ensures err { IfErr result (λ e. e ≢ ApiBad.NoMemory → call_of Function.CreateSession pairs.now ≡ Err e) }
@@ -135,13 +160,8 @@ fn call_of(alloc: Global, function: Function, pairs: &[Pair]) -> Result<Call, Ap
         },
         Function::ListAllGroups => Call::ListAllGroups,
         Function::CreateGroupPad => return create_group_pad(alloc, pairs),
-        Function::CreateAuthor => Call::CreateAuthor {
-            name: text_or(alloc, Param::Name, pairs)?,
-        },
-        Function::CreateAuthorIfNotExistsFor => Call::CreateAuthorIfNotExistsFor {
-            mapper: text(alloc, Param::AuthorMapper, pairs)?,
-            name: text_if(alloc, Param::Name, pairs)?,
-        },
+        Function::CreateAuthor => return create_author(alloc, pairs),
+        Function::CreateAuthorIfNotExistsFor => return create_mapped_author(alloc, pairs),
         Function::GetAuthorName => Call::GetAuthorName {
             author: text(alloc, Param::AuthorId, pairs)?,
         },
