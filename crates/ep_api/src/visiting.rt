@@ -55,7 +55,7 @@ pub fn create<R: Wait, P: PadPort>(
     ensures visits { AtHall (P.hall_known hall.old) (map (stay_of P.known P.name_of P.cell_of) taken.old.items) (create name id.now text.now now) result (P.hall_known hall.new) (map (stay_of P.known P.name_of P.cell_of) taken.new.items) }
 {
     let mut pass = enter(rt, pads, hall, taken, id)?;
-    let told = pads.create(rt, &mut pass, text, now);
+    let told = ep_pad_calls::create(rt, pads, &mut pass, text, now);
     taken.push_reserved(pass);
     answered(name, told)
 }
@@ -76,7 +76,7 @@ pub fn delete<R: Wait, P: PadPort>(
     ensures visits { AtHall (P.hall_known hall.old) (map (stay_of P.known P.name_of P.cell_of) taken.old.items) (delete id.now now) result (P.hall_known hall.new) (map (stay_of P.known P.name_of P.cell_of) taken.new.items) }
 {
     let mut pass = enter(rt, pads, hall, taken, id)?;
-    let told = pads.delete(rt, &mut pass, now);
+    let told = ep_pad_calls::delete(rt, pads, &mut pass, now);
     taken.push_reserved(pass);
     answered(Param::PadId, told)
 }
@@ -107,7 +107,7 @@ pub fn delete_if_there<R: Wait, P: PadPort>(
     ensures visits { AtHall (P.hall_known hall.old) (map (stay_of P.known P.name_of P.cell_of) taken.old.items) (delete_if_there id.now now) result (P.hall_known hall.new) (map (stay_of P.known P.name_of P.cell_of) taken.new.items) }
 {
     let mut pass = enter(rt, pads, hall, taken, id)?;
-    let told = pads.delete(rt, &mut pass, now);
+    let told = ep_pad_calls::delete(rt, pads, &mut pass, now);
     taken.push_reserved(pass);
     or_absent(told)
 }
@@ -128,7 +128,7 @@ pub fn set_public<R: Wait, P: PadPort>(
     ensures visits { AtHall (P.hall_known hall.old) (map (stay_of P.known P.name_of P.cell_of) taken.old.items) (set_public id.now on) result (P.hall_known hall.new) (map (stay_of P.known P.name_of P.cell_of) taken.new.items) }
 {
     let mut pass = enter(rt, pads, hall, taken, id)?;
-    let told = pads.set_public(rt, &mut pass, on);
+    let told = ep_pad_calls::set_public(rt, pads, &mut pass, on);
     taken.push_reserved(pass);
     answered(Param::PadId, told)
 }
@@ -149,7 +149,7 @@ pub fn text<R: Wait, P: PadPort>(
     ensures visits { AtHall (P.hall_known hall.old) (map (stay_of P.known P.name_of P.cell_of) taken.old.items) (text id.now rev) result (P.hall_known hall.new) (map (stay_of P.known P.name_of P.cell_of) taken.new.items) }
 {
     let mut pass = enter(rt, pads, hall, taken, id)?;
-    let told = pads.text(rt, &mut pass, rev);
+    let told = ep_pad_calls::text(rt, pads, &mut pass, rev);
     taken.push_reserved(pass);
     answered(Param::PadId, told)
 }
@@ -172,7 +172,7 @@ pub fn set_text<R: Wait, P: PadPort>(
     ensures visits { AtHall (P.hall_known hall.old) (map (stay_of P.known P.name_of P.cell_of) taken.old.items) (set_text id.now text.now now) result (P.hall_known hall.new) (map (stay_of P.known P.name_of P.cell_of) taken.new.items) }
 {
     let mut pass = enter(rt, pads, hall, taken, id)?;
-    let told = pads.set_text(rt, &mut pass, text, now);
+    let told = ep_pad_calls::set_text(rt, pads, &mut pass, text, now);
     taken.push_reserved(pass);
     answered(Param::PadId, told)
 }
@@ -192,7 +192,7 @@ pub fn status<R: Wait, P: PadPort>(
     ensures visits { AtHall (P.hall_known hall.old) (map (stay_of P.known P.name_of P.cell_of) taken.old.items) (status id.now) result (P.hall_known hall.new) (map (stay_of P.known P.name_of P.cell_of) taken.new.items) }
 {
     let mut pass = enter(rt, pads, hall, taken, id)?;
-    let told = pads.status(rt, &mut pass);
+    let told = ep_pad_calls::status(rt, pads, &mut pass);
     taken.push_reserved(pass);
     answered(Param::PadId, told)
 }

@@ -46,7 +46,7 @@ fn entered<R: Wait, P: PadPort>(
     let Ok(mut pass) = pads.pass(rt, &mut hall, &grant.pad) else {
         return Ok(Value::Null);
     };
-    match pads.login(rt, &mut pass, grant, now) {
+    match ep_pad_calls::login(rt, pads, &mut pass, grant, now) {
         Ok(welcome) => {
             let epoch = welcome.session.epoch;
             let count = welcome.session.count;

@@ -1,13 +1,11 @@
 //! A house: the pads of a server, each on its file, and its directory, as one value that many threads share.
 //!
-//! It is both ports. A call of the pads' port copies what it is given by reference, makes one call of the pad's machine,
-//! and hands on its answer; the directory's calls are those of `ep_house`. The crates above take any `PadPort` and any
+//! It is both ports. A call of the pads' port is one call of the pad's machine; the directory's calls are those of
+//! `ep_house`. The crates above take any `PadPort` and any
 //! `DirPort`, and rest on the clauses of these; only who opens a house names it. It is not for what a call answers, which
 //! stands with the pad and with the directory, nor for which cell a name has.
 #![tactic(auto)]
 
-mod asking;
-mod copying;
 mod dir_port;
 mod house;
 mod pad_calls;

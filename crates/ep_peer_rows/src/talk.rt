@@ -90,10 +90,10 @@ fn read_by<R: Wait, P: PadPort>(
 ) -> Result<bool, NoMemory>
     requires { P.is_of pads.now pass.old }
 {
-    let Ok(status) = pads.status(rt, pass) else {
+    let Ok(status) = ep_pad_calls::status(rt, pads, pass) else {
         return Ok(false);
     };
-    let Ok(doc) = pads.text(rt, pass, None) else {
+    let Ok(doc) = ep_pad_calls::text(rt, pads, pass, None) else {
         return Ok(false);
     };
     served.head = status.head;

@@ -4,12 +4,10 @@ ghost use Rattle.std.specs.Prelude.{◌≡◌};
 
 use crate::bell::NOBODY;
 use crate::bells::Bells;
-use ep_apply::Doc;
-use ep_cs::Change;
 use ep_link::Ear;
 use ep_outside::Limits;
-use ep_pad::{CatchUp, Committed, Fetched, PadBad, PadPort, PadStatus, PassBad, Piece, Welcome};
-use ep_units::{Grant, NoMemory, PadId, Session, Units};
+use ep_pad::{PadBad, PadEntry, PadPort, PadReply, PassBad};
+use ep_units::{NoMemory, PadId, Units};
 use std::alloc::Global;
 use std::sync::{Arc, Mutex, Wait};
 
@@ -121,6 +119,10 @@ impl<P: PadPort + Drop, E: Ear> PadPort for Ringing<P, E> {
 
     ghost known = { λ pass. P.known pass.pass };
 
+    fn alloc(&self) -> Global {
+        self.pads.alloc()
+    }
+
     fn limits(&self) -> Limits {
         self.pads.limits()
     }
@@ -148,144 +150,19 @@ impl<P: PadPort + Drop, E: Ear> PadPort for Ringing<P, E> {
         self.pads.meet(&mut one.pass, &mut other.pass);
     }
 
-    fn login<R: Wait>(
-        &self,
-        rt: &R,
-        pass: &mut RingPass<P::Pass>,
-        grant: &Grant,
-        now: u64,
-    ) -> Result<Welcome, PadBad> {
-        let reply = self.pads.login(rt, &mut pass.pass, grant, now);
-        if reply.is_ok() {
-            self.listen(rt, &pass.pad);
+    fn ask<R: Wait>(&self, rt: &R, pass: &mut RingPass<P::Pass>, entry: PadEntry) -> PadReply {
+        let deletes = matches!(entry, PadEntry::Delete { .. });
+        let reply = self.pads.ask(rt, &mut pass.pass, entry);
+        match &reply {
+            PadReply::Welcome(Ok(_)) | PadReply::CatchUp(Ok(_)) => self.listen(rt, &pass.pad),
+            PadReply::Committed(Ok(_)) => self.ring(rt, &pass.pad),
+            PadReply::Done(Ok(())) => {
+                if deletes {
+                    self.ring(rt, &pass.pad);
+                }
+            }
+            _ => {}
         }
         reply
-    }
-
-    fn resume<R: Wait>(
-        &self,
-        rt: &R,
-        pass: &mut RingPass<P::Pass>,
-        grant: &Grant,
-        rev: u64,
-        birth: Option<u64>,
-        author: Option<&Units>,
-        now: u64,
-    ) -> Result<CatchUp, PadBad> {
-        let reply = self
-            .pads
-            .resume(rt, &mut pass.pass, grant, rev, birth, author, now);
-        if reply.is_ok() {
-            self.listen(rt, &pass.pad);
-        }
-        reply
-    }
-
-    fn accept<R: Wait>(
-        &self,
-        rt: &R,
-        pass: &mut RingPass<P::Pass>,
-        session: Session,
-        base: u64,
-        change: Change,
-        now: u64,
-    ) -> Result<Committed, PadBad> {
-        let reply = self
-            .pads
-            .accept(rt, &mut pass.pass, session, base, change, now);
-        if reply.is_ok() {
-            self.ring(rt, &pass.pad);
-        }
-        reply
-    }
-
-    fn fetch<R: Wait>(
-        &self,
-        rt: &R,
-        pass: &mut RingPass<P::Pass>,
-        session: Session,
-        from: u64,
-        told: u64,
-    ) -> Result<Fetched, PadBad> {
-        self.pads.fetch(rt, &mut pass.pass, session, from, told)
-    }
-
-    fn leave<R: Wait>(
-        &self,
-        rt: &R,
-        pass: &mut RingPass<P::Pass>,
-        session: Session,
-    ) -> Result<(), PadBad> {
-        self.pads.leave(rt, &mut pass.pass, session)
-    }
-
-    fn create<R: Wait>(
-        &self,
-        rt: &R,
-        pass: &mut RingPass<P::Pass>,
-        text: &Units,
-        now: u64,
-    ) -> Result<u64, PadBad> {
-        self.pads.create(rt, &mut pass.pass, text, now)
-    }
-
-    fn set_text<R: Wait>(
-        &self,
-        rt: &R,
-        pass: &mut RingPass<P::Pass>,
-        text: &Units,
-        now: u64,
-    ) -> Result<Committed, PadBad> {
-        let reply = self.pads.set_text(rt, &mut pass.pass, text, now);
-        if reply.is_ok() {
-            self.ring(rt, &pass.pad);
-        }
-        reply
-    }
-
-    fn delete<R: Wait>(
-        &self,
-        rt: &R,
-        pass: &mut RingPass<P::Pass>,
-        now: u64,
-    ) -> Result<(), PadBad> {
-        let reply = self.pads.delete(rt, &mut pass.pass, now);
-        if reply.is_ok() {
-            self.ring(rt, &pass.pad);
-        }
-        reply
-    }
-
-    fn set_public<R: Wait>(
-        &self,
-        rt: &R,
-        pass: &mut RingPass<P::Pass>,
-        on: bool,
-    ) -> Result<(), PadBad> {
-        self.pads.set_public(rt, &mut pass.pass, on)
-    }
-
-    fn text<R: Wait>(
-        &self,
-        rt: &R,
-        pass: &mut RingPass<P::Pass>,
-        rev: Option<u64>,
-    ) -> Result<Doc, PadBad> {
-        self.pads.text(rt, &mut pass.pass, rev)
-    }
-
-    fn history<R: Wait>(
-        &self,
-        rt: &R,
-        pass: &mut RingPass<P::Pass>,
-        session: Session,
-        start: u64,
-        count: u64,
-    ) -> Result<Piece, PadBad> {
-        self.pads.history(rt, &mut pass.pass, session, start, count)
-    }
-
-    fn status<R: Wait>(&self, rt: &R, pass: &mut RingPass<P::Pass>) -> Result<PadStatus, PadBad> {
-        self.pads.status(rt, &mut pass.pass)
     }
 }

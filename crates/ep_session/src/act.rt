@@ -43,7 +43,7 @@ fn take<R: Wait, P: PadPort, C: Clock>(
     ensures cause { (before now : ℕ) → IsCaused result before now }
 {
     let now = clock.now_ms();
-    pads.accept(rt, pass, place.me, base, change, now)?;
+    ep_pad_calls::accept(rt, pads, pass, place.me, base, change, now)?;
     place.taken = counted(place.taken, 1);
     Ok(())
 }
@@ -147,7 +147,7 @@ fn look<R: Wait, L: Link, P: PadPort>(
     ensures cause { IsCaused result (L.failures link.old) (L.failures link.new) }
     ensures later { L.failures link.old ≤ L.failures link.new }
 {
-    let piece = pads.history(rt, pass, place.me, asked.0, 100 * asked.1)?;
+    let piece = ep_pad_calls::history(rt, pads, pass, place.me, asked.0, 100 * asked.1)?;
     let steps = make_steps(alloc, piece)?;
     show(rt, alloc, link, asked, &steps)
 }

@@ -98,7 +98,7 @@ pub fn log_in<R: Wait, L: Link, P: PadPort, C: Clock>(
     ensures cause { IsCaused result (L.failures link.old) (L.failures link.new) }
     ensures later { L.failures link.old ≤ L.failures link.new }
 {
-    let welcome = pads.login(rt, pass, grant, clock.now_ms())?;
+    let welcome = ep_pad_calls::login(rt, pads, pass, grant, clock.now_ms())?;
     *place = Place {
         inside: true,
         me: welcome.session,
@@ -143,8 +143,9 @@ pub fn rejoin<R: Wait, L: Link, P: PadPort, C: Clock>(
     ensures cause { IsCaused result (L.failures link.old) (L.failures link.new) }
     ensures later { L.failures link.old ≤ L.failures link.new }
 {
-    let caught = pads.resume(
+    let caught = ep_pad_calls::resume(
         rt,
+        pads,
         pass,
         grant,
         again.rev,

@@ -31,7 +31,7 @@ fn fetch<R: Wait, L: Link, P: PadPort>(
     ensures cause { IsCaused result (L.failures link.old) (L.failures link.new) }
     ensures later { L.failures link.old ≤ L.failures link.new }
 {
-    let fetched = pads.fetch(rt, pass, place.me, place.rev, place.nops)?;
+    let fetched = ep_pad_calls::fetch(rt, pads, pass, place.me, place.rev, place.nops)?;
     let full = fetched.head == counted(place.rev, fetched.revs.len() as u64);
     tell_all(rt, alloc, link, place, fetched.revs, &fetched.nops)?;
     Ok(full)

@@ -88,7 +88,7 @@ fn leave_pad<R: Wait, P: PadPort>(rt: &R, pads: &P, pass: &mut P::Pass, place: &
     ensures legal { IsLegalFrom P.Store.told P.Store.failures (P.begun pass.new) (pairs (P.known pass.new).seen) }
     ensures pad { (P.name_of pass.new ≡ P.name_of pass.old) × (P.cell_of pass.new ≡ P.cell_of pass.old) × (P.begun pass.new ≡ P.begun pass.old) }
 {
-    drop(pads.leave(rt, pass, place.me));
+    drop(ep_pad_calls::leave(rt, pads, pass, place.me));
 }
 
 // Leaves the pad, where it is to.

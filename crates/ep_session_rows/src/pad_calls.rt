@@ -14,7 +14,7 @@ use std::sync::Wait;
 pub fn log_in<R: Wait, P: PadPort>(rt: &R, pads: &P, grant: &Grant, now: u64) {
     let mut hall = pads.hall(rt);
     if let Ok(mut pass) = pads.pass(rt, &mut hall, &grant.pad) {
-        drop(pads.login(rt, &mut pass, grant, now));
+        drop(ep_pad_calls::login(rt, pads, &mut pass, grant, now));
     }
 }
 
@@ -29,7 +29,7 @@ fn create<R: Wait, P: PadPort>(
 {
     let now = whole(call, "now")?;
     let text = units(alloc, call, "text")?;
-    drop(pads.create(rt, pass, &text, now));
+    drop(ep_pad_calls::create(rt, pads, pass, &text, now));
     Ok(())
 }
 
@@ -44,7 +44,7 @@ fn set_text<R: Wait, P: PadPort>(
 {
     let now = whole(call, "now")?;
     let text = units(alloc, call, "text")?;
-    drop(pads.set_text(rt, pass, &text, now));
+    drop(ep_pad_calls::set_text(rt, pads, pass, &text, now));
     Ok(())
 }
 
@@ -61,7 +61,7 @@ fn accept<R: Wait, P: PadPort>(
     let base = whole(call, "base")?;
     let now = whole(call, "now")?;
     let change = change(alloc, call)?;
-    drop(pads.accept(rt, pass, by, base, change, now));
+    drop(ep_pad_calls::accept(rt, pads, pass, by, base, change, now));
     Ok(())
 }
 
@@ -78,9 +78,9 @@ fn make_call<R: Wait, P: PadPort>(
         "create" => create(rt, alloc, pads, pass, call)?,
         "set_text" => set_text(rt, alloc, pads, pass, call)?,
         "accept" => accept(rt, alloc, pads, pass, call)?,
-        "delete" => drop(pads.delete(rt, pass, whole(call, "now")?)),
-        "set_public" => drop(pads.set_public(rt, pass, flag(call, "on")?)),
-        "leave" => drop(pads.leave(rt, pass, session(call)?)),
+        "delete" => drop(ep_pad_calls::delete(rt, pads, pass, whole(call, "now")?)),
+        "set_public" => drop(ep_pad_calls::set_public(rt, pads, pass, flag(call, "on")?)),
+        "leave" => drop(ep_pad_calls::leave(rt, pads, pass, session(call)?)),
         _ => return Err(Stop::Wrong),
     }
     Ok(())

@@ -131,7 +131,7 @@ fn logs_in<R: Wait, P: PadPort>(rt: &R, port: &P, pass: &mut P::Pass, grant: &Gr
     requires { P.is_of port.now pass.old }
     ensures { P.is_of port.now pass.new }
 {
-    port.login(rt, pass, grant, 2).is_ok()
+    ep_pad_calls::login(rt, port, pass, grant, 2).is_ok()
 }
 
 fn sets_text<R: Wait, P: PadPort>(
@@ -144,7 +144,7 @@ fn sets_text<R: Wait, P: PadPort>(
     requires { P.is_of port.now pass.old }
 {
     let text = Units::from_str(alloc, text)?;
-    Ok(port.set_text(rt, pass, &text, 3).is_ok())
+    Ok(ep_pad_calls::set_text(rt, port, pass, &text, 3).is_ok())
 }
 
 /// Whether a visitor may enter the pad, and set its text, if it has one to set.

@@ -79,7 +79,7 @@ fn enter<R: Wait, P: PadPort>(
     ensures { P.is_of port.now pass.new }
 {
     let grant = grant(alloc)?;
-    let welcome = port.login(rt, pass, &grant, 5)?;
+    let welcome = ep_pad_calls::login(rt, port, pass, &grant, 5)?;
     Ok(welcome.session)
 }
 
@@ -93,7 +93,7 @@ fn come_back<R: Wait, P: PadPort>(
     ensures { P.is_of port.now pass.new }
 {
     let grant = grant(alloc)?;
-    let back = port.resume(rt, pass, &grant, 0, Some(1), None, 8)?;
+    let back = ep_pad_calls::resume(rt, port, pass, &grant, 0, Some(1), None, 8)?;
     Ok(back.session)
 }
 
@@ -107,7 +107,7 @@ fn set_text<R: Wait, P: PadPort>(
     ensures { P.is_of port.now pass.new }
 {
     let text = Units::from_str(alloc, "ab")?;
-    port.set_text(rt, pass, &text, 6)?;
+    ep_pad_calls::set_text(rt, port, pass, &text, 6)?;
     Ok(())
 }
 
@@ -121,7 +121,7 @@ fn newline<R: Wait, P: PadPort>(
     requires { P.is_of port.now pass.old }
     ensures { P.is_of port.now pass.new }
 {
-    let doc = port.text(rt, pass, None)?;
+    let doc = ep_pad_calls::text(rt, port, pass, None)?;
     if doc.len() > 9 {
         return Ok(None);
     }
@@ -138,8 +138,8 @@ fn shows<R: Wait, P: PadPort>(
     requires { P.is_of port.now pass.old }
     ensures { P.is_of port.now pass.new }
 {
-    let fetched = port.fetch(rt, pass, me, 0, 0)?;
-    let piece = port.history(rt, pass, me, 0, 9)?;
+    let fetched = ep_pad_calls::fetch(rt, port, pass, me, 0, 0)?;
+    let piece = ep_pad_calls::history(rt, port, pass, me, 0, 9)?;
     Ok(fetched.head == 2 && piece.revs.len() == 2)
 }
 
@@ -158,7 +158,7 @@ fn edits<R: Wait, P: PadPort>(
     let Some(change) = newline(rt, alloc, port, pass)? else {
         return Ok(false);
     };
-    let taken = port.accept(rt, pass, me, 1, change, 7)?;
+    let taken = ep_pad_calls::accept(rt, port, pass, me, 1, change, 7)?;
     Ok(taken.rev == 2 && shows(rt, port, pass, me)?)
 }
 
@@ -173,9 +173,9 @@ fn leaves<R: Wait, P: PadPort>(
     ensures { P.is_of port.now pass.new }
 {
     let me = come_back(rt, alloc, port, pass)?;
-    port.leave(rt, pass, me)?;
-    port.set_public(rt, pass, true)?;
-    let status = port.status(rt, pass)?;
+    ep_pad_calls::leave(rt, port, pass, me)?;
+    ep_pad_calls::set_public(rt, port, pass, true)?;
+    let status = ep_pad_calls::status(rt, port, pass)?;
     Ok(status.head)
 }
 
@@ -189,9 +189,9 @@ fn birth<R: Wait, P: PadPort>(
     requires { P.is_of port.now pass.old }
     ensures { P.is_of port.now pass.new }
 {
-    port.delete(rt, pass, 9)?;
+    ep_pad_calls::delete(rt, port, pass, 9)?;
     let text = Units::from_str(alloc, "c")?;
-    port.create(rt, pass, &text, 10)
+    ep_pad_calls::create(rt, port, pass, &text, 10)
 }
 
 fn all_answer<R: Wait, P: PadPort>(
@@ -237,7 +237,7 @@ fn granted<R: Wait, P: DirPort>(
 fn enters<R: Wait, P: PadPort>(rt: &R, port: &P, grant: &Grant) -> bool {
     let mut hall = port.hall(rt);
     match port.pass(rt, &mut hall, &grant.pad) {
-        Ok(mut pass) => port.login(rt, &mut pass, grant, 2).is_ok(),
+        Ok(mut pass) => ep_pad_calls::login(rt, port, &mut pass, grant, 2).is_ok(),
         Err(_) => false,
     }
 }
@@ -258,7 +258,7 @@ fn reads<R: Wait, P: PadPort>(
     let Ok(mut pass) = port.pass(rt, hall, &name) else {
         return Ok(false);
     };
-    match port.text(rt, &mut pass, None) {
+    match ep_pad_calls::text(rt, port, &mut pass, None) {
         Ok(doc) => has_text(alloc, &doc, text),
         Err(_) => Ok(false),
     }

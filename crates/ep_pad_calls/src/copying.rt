@@ -5,7 +5,7 @@ ghost use Rattle.std.specs.Prelude.{◌≡◌, IfOk, option_map};
 use ep_units::{Grant, NoMemory, Units};
 use std::alloc::Global;
 
-pub fn copied_grant(alloc: Global, grant: &Grant) -> Result<Grant, NoMemory>
+pub(crate) fn copied_grant(alloc: Global, grant: &Grant) -> Result<Grant, NoMemory>
     ensures { IfOk result (λ copy. copy ≡ grant.now) }
 {
     let pad = grant.pad.copy(alloc)?;
@@ -22,7 +22,10 @@ pub fn copied_grant(alloc: Global, grant: &Grant) -> Result<Grant, NoMemory>
     })
 }
 
-pub fn copied_author(alloc: Global, author: Option<&Units>) -> Result<Option<Units>, NoMemory>
+pub(crate) fn copied_author(
+    alloc: Global,
+    author: Option<&Units>,
+) -> Result<Option<Units>, NoMemory>
     ensures { IfOk result (λ copy. copy ≡ option_map (λ x. x.now) author.entry) }
 {
     match author {

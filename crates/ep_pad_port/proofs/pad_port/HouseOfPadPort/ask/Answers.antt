@@ -3,7 +3,7 @@ use Rattle.ep_house.specs.Pads.{begun_of, known}
 use Rattle.ep_cell.specs.History.{pairs}
 use Rattle.ep_pad.specs.Histories.{IsLegalFrom}
 use Rattle.ep_pad_port.proofs.Replied.{suits}
-use Rattle.ep_pad_port.proofs.house.HouseOf.ask.Goals as goal
+use Rattle.ep_pad_port.proofs.pad_port.HouseOfPadPort.ask.Goals as goal
 
 pub returns-clause-of : goal.returns-clause-of
 returns-clause-of g c = (c.call.ensures.pad.3 ∙ c.requires.of.0, c.call.ensures.pad.4 ∙ c.requires.of.1)
