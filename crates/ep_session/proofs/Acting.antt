@@ -24,7 +24,7 @@ use Rattle.ep_wire_words.specs.declared.server.ServerMsg.TheVariants as msg
 use Rattle.ep_link.specs.declared.passed.LinkGot.{LinkGot}
 use Rattle.ep_link.specs.declared.passed.LinkGot.TheVariants as got
 use Rattle.ep_session.specs.Acts.{Act, Edits, Reads, act_of, act_by, acts_asked, acts_called}
-use Rattle.ep_session.specs.Session.{Did, Heard, Understood, Said, Unsaid, Duty, Greet, Begin, Ask, Enter, Login, Rejoin, Hear, Understand, Take, Look, Show, Fetch, Tell, TellNop, Say, Outcome, Then, Ends, Runs, heard, asked, begun, greeted, granted, entered, welcomed, rejoined, none_missed, took, looked, shown, unfit, changes_of, fetched, is_full, nops_due, news_due, due_at, counted, telling, told, nop_told, is_step, calls_of}
+use Rattle.ep_session.specs.Session.{Did, Heard, Understood, Said, Unsaid, Duty, Greet, Begin, Ask, Enter, Login, Rejoin, Hear, Understand, Take, Look, Show, Fetch, Tell, TellNop, Say, Outcome, Then, Ends, Runs, heard, asked, begun, greeted, granted, entered, welcomed, rejoined, none_missed, took, looked, shown, unfit, changes_of, fetched, is_full, nops_due, news_due, due_at, counted, telling, told, nop_told, is_step, calls_of, admitted, is_short}
 use Rattle.ep_session.specs.declared.end.End.{End}
 use Rattle.ep_session.specs.declared.place.Place.{Place}
 use Rattle.ep_session.specs.declared.ready.Ready.{Ready}
@@ -53,7 +53,11 @@ fits_choice true at more e due s = s
 fits_choice false at more e due s = tt
 
 pub begun_fits : (at : Place) (drawn : Drawn) (r : Result ClientMsg WireBad) → Fits [] (begun at drawn r)
-begun_fits at drawn (Ok (msgs.Ready pad token sessions resume)) = refl
+begun_fits at drawn (Ok (msgs.Ready pad token sessions resume)) = first (is_short token)
+  where
+    first : (b : Bool) → Fits [] (admitted at drawn (record { pad = pad; token = token; sessions = sessions; resume = resume }) b)
+    first true = refl
+    first false = tt
 begun_fits at drawn (Ok (msgs.Edit base change)) = tt
 begun_fits at drawn (Ok (msgs.Slide start granularity request)) = tt
 begun_fits at drawn (Ok msgs.Other) = tt
@@ -230,7 +234,11 @@ heard_has at got.Failed n = omega arith
 heard_has at got.NoMemory n = omega arith
 
 begun_has : (at : Place) (drawn : Drawn) (r : Result ClientMsg WireBad) → HasActs (act_of r) (begun at drawn r)
-begun_has at drawn (Ok (msgs.Ready pad token sessions resume)) = refl
+begun_has at drawn (Ok (msgs.Ready pad token sessions resume)) = first (is_short token)
+  where
+    first : (b : Bool) → HasActs (act_of (Ok (msgs.Ready pad token sessions resume))) (admitted at drawn (record { pad = pad; token = token; sessions = sessions; resume = resume }) b)
+    first true = refl
+    first false = omega arith
 begun_has at drawn (Ok (msgs.Edit base change)) = omega arith
 begun_has at drawn (Ok (msgs.Slide start granularity request)) = slide_few (is_step granularity) (Reads start (100 * granularity))
 begun_has at drawn (Ok msgs.Other) = omega arith

@@ -31,7 +31,7 @@ use Rattle.ep_link.specs.declared.passed.LinkGot.TheVariants as got
 use Rattle.ep_session.specs.Beginning.{IsFirst, IsJoin, Joins, IsHoused, IsBegun}
 use Rattle.ep_session.specs.Ends.{end_of_dir, end_of_pass}
 use Rattle.ep_session.specs.Says.{IsInside}
-use Rattle.ep_session.specs.Session.{asking, joining, desk_of, hall_of, Did, Heard, Understood, Said, Unsaid, Called, Granted, Entered, Duty, Greet, Begin, Ask, Enter, Login, Rejoin, Hear, Understand, Take, Look, Show, Fetch, Tell, TellNop, Say, Outcome, Then, Ends, Runs, Does, heard, asked, begun, greeted, granted, entered, welcomed, rejoined, none_missed, took, looked, shown, unfit, changes_of, fetched, is_full, nops_due, news_due, due_at, counted, telling, told, nop_telling, nop_told, is_step, nowhere, calls_of}
+use Rattle.ep_session.specs.Session.{asking, joining, desk_of, hall_of, Did, Heard, Understood, Said, Unsaid, Called, Granted, Entered, Duty, Greet, Begin, Ask, Enter, Login, Rejoin, Hear, Understand, Take, Look, Show, Fetch, Tell, TellNop, Say, Outcome, Then, Ends, Runs, Does, heard, asked, begun, greeted, granted, entered, welcomed, rejoined, none_missed, took, looked, shown, unfit, changes_of, fetched, is_full, nops_due, news_due, due_at, counted, telling, told, nop_telling, nop_told, is_step, nowhere, calls_of, admitted, is_short}
 use Rattle.ep_session.specs.declared.end.End.{End}
 use Rattle.ep_session.specs.declared.place.Place.{Place}
 use Rattle.ep_session.specs.declared.ready.Ready.{Ready}
@@ -257,9 +257,14 @@ met drawn text m ready log out is (inl none) = inl none
 met drawn text m ready log out is (inr (now, rest)) = inr (ready, now, is, rest)
 
 read_law : (drawn : Drawn) (text : List ℕ) (did : Did) (log : List Did) (out : Outcome) (to : Place) (more : List Duty) (m : Result ClientMsg WireBad) → did ≡ Understood text m → Then to more ≡ begun nowhere drawn m → Runs to (more ++ []) log out → IsMet drawn (did ∷ log) out
-read_law drawn text did log out to more (Ok (msgs.Ready pad token sessions resume)) is same r =
-    let ready : Ready = record { pad = pad; token = token; sessions = sessions; resume = resume } in
-    subst (λ d. IsMet drawn (d ∷ log) out) (sym is) (met drawn text (Ok (msgs.Ready pad token sessions resume)) ready log out refl (ask_law drawn ready log out (moved to nowhere more (Ask drawn ready ∷ []) log out same [] r)))
+read_law drawn text did log out to more (Ok (msgs.Ready pad token sessions resume)) is same r = first (is_short token) same
+  where
+    ready : Ready
+    ready = record { pad = pad; token = token; sessions = sessions; resume = resume }
+
+    first : (b : Bool) → Then to more ≡ admitted nowhere drawn ready b → IsMet drawn (did ∷ log) out
+    first true so = subst (λ d. IsMet drawn (d ∷ log) out) (sym is) (met drawn text (Ok (msgs.Ready pad token sessions resume)) ready log out refl (ask_law drawn ready log out (moved to nowhere more (Ask drawn ready ∷ []) log out so [] r)))
+    first false so = absurd (not_both to nowhere more _ so)
 read_law drawn text did log out to more (Ok (msgs.Edit base change)) is same r = absurd (not_both to nowhere more _ same)
 read_law drawn text did log out to more (Ok (msgs.Slide start granularity request)) is same r = absurd (not_both to nowhere more _ same)
 read_law drawn text did log out to more (Ok msgs.Other) is same r = absurd (not_both to nowhere more _ same)

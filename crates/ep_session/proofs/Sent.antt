@@ -27,7 +27,7 @@ use Rattle.ep_wire_words.specs.declared.server.ServerMsg.TheVariants as msg
 use Rattle.ep_link.specs.declared.passed.LinkGot.{LinkGot}
 use Rattle.ep_link.specs.declared.passed.LinkGot.TheVariants as got
 use Rattle.ep_session.specs.Output.{nop_tellings, nops_told, tellings, told_all, output, said_by, said_of, plain}
-use Rattle.ep_session.specs.Session.{Did, Heard, Understood, Said, Unsaid, Called, Duty, Greet, Begin, Ask, Enter, Login, Rejoin, Hear, Understand, Take, Look, Show, Fetch, Tell, TellNop, Say, Outcome, Then, Ends, Runs, heard, asked, begun, greeted, granted, entered, welcomed, rejoined, none_missed, welcome_place, rejoin_place, vars, took, looked, shown, unfit, changes_of, fetched, is_full, nops_due, news_due, due_at, counted, telling, told, nop_telling, nop_told, is_step, calls_of}
+use Rattle.ep_session.specs.Session.{Did, Heard, Understood, Said, Unsaid, Called, Duty, Greet, Begin, Ask, Enter, Login, Rejoin, Hear, Understand, Take, Look, Show, Fetch, Tell, TellNop, Say, Outcome, Then, Ends, Runs, heard, asked, begun, greeted, granted, entered, welcomed, rejoined, none_missed, welcome_place, rejoin_place, vars, took, looked, shown, unfit, changes_of, fetched, is_full, nops_due, news_due, due_at, counted, telling, told, nop_telling, nop_told, is_step, calls_of, admitted, is_short}
 use Rattle.ep_session.specs.declared.end.End.{End}
 use Rattle.ep_session.specs.declared.end.End.TheVariants as ends
 use Rattle.ep_session.specs.declared.place.Place.{Place}
@@ -298,7 +298,11 @@ heard_steady at got.Failed n = tt
 heard_steady at got.NoMemory n = tt
 
 begun_steady : (at : Place) (drawn : Drawn) (r : Result ClientMsg WireBad) → Steady at (begun at drawn r)
-begun_steady at drawn (Ok (msgs.Ready pad token sessions resume)) = (refl, tt)
+begun_steady at drawn (Ok (msgs.Ready pad token sessions resume)) = first (is_short token)
+  where
+    first : (b : Bool) → Steady at (admitted at drawn (record { pad = pad; token = token; sessions = sessions; resume = resume }) b)
+    first true = (refl, tt)
+    first false = tt
 begun_steady at drawn (Ok (msgs.Edit base change)) = tt
 begun_steady at drawn (Ok (msgs.Slide start granularity request)) = tt
 begun_steady at drawn (Ok msgs.Other) = tt

@@ -30,7 +30,7 @@ use Rattle.ep_link.specs.declared.passed.LinkGot.{LinkGot}
 use Rattle.ep_link.specs.declared.passed.LinkGot.TheVariants as got
 use Rattle.ep_session.specs.Acts.{EndsFull}
 use Rattle.ep_session.specs.Output.{nops_told, told_all}
-use Rattle.ep_session.specs.Session.{Did, Heard, Understood, Said, Unsaid, Called, Granted, Entered, Duty, Greet, Begin, Ask, Enter, Login, Rejoin, Hear, Understand, Take, Look, Show, Fetch, Tell, TellNop, Say, Outcome, Then, Ends, Runs, Does, heard, asked, begun, greeted, granted, entered, welcomed, rejoined, none_missed, took, looked, shown, unfit, changes_of, fetched, is_full, nops_due, news_due, due_at, counted, telling, told, nop_telling, nop_told, is_step, nowhere, calls_of}
+use Rattle.ep_session.specs.Session.{Did, Heard, Understood, Said, Unsaid, Called, Granted, Entered, Duty, Greet, Begin, Ask, Enter, Login, Rejoin, Hear, Understand, Take, Look, Show, Fetch, Tell, TellNop, Say, Outcome, Then, Ends, Runs, Does, heard, asked, begun, greeted, granted, entered, welcomed, rejoined, none_missed, took, looked, shown, unfit, changes_of, fetched, is_full, nops_due, news_due, due_at, counted, telling, told, nop_telling, nop_told, is_step, nowhere, calls_of, admitted, is_short}
 use Rattle.ep_session.specs.declared.end.End.{End}
 use Rattle.ep_session.specs.declared.place.Place.{Place}
 use Rattle.ep_session.specs.declared.ready.Ready.{Ready}
@@ -79,7 +79,11 @@ Early (Then to more) = Awaits (more ++ []) → ⊥
 Early (Ends to e) = Unit {0}
 
 begun_early : (at : Place) (drawn : Drawn) (r : Result ClientMsg WireBad) → Early (begun at drawn r)
-begun_early at drawn (Ok (msgs.Ready pad token sessions resume)) = λ a. a
+begun_early at drawn (Ok (msgs.Ready pad token sessions resume)) = first (is_short token)
+  where
+    first : (b : Bool) → Early (admitted at drawn (record { pad = pad; token = token; sessions = sessions; resume = resume }) b)
+    first true = λ a. a
+    first false = tt
 begun_early at drawn (Ok (msgs.Edit base change)) = tt
 begun_early at drawn (Ok (msgs.Slide start granularity request)) = tt
 begun_early at drawn (Ok msgs.Other) = tt

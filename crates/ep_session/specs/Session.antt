@@ -3,6 +3,7 @@ use Rattle.std.specs.Prelude.{ℕ, zero, suc, ◌≡◌, ◌⊎◌, ◌+◌, ◌
 use Rattle.atomic_table.specs.Seated.{TableId}
 use Rattle.serde_json.specs.Written.{compact_text}
 use Rattle.ep_units.specs.Text.{Text}
+use Rattle.ep_units.specs.Utf8.{utf8_of}
 use Rattle.ep_units.specs.declared.grant.Grant.{Grant}
 use Rattle.ep_units.specs.declared.session.Session.{Session}
 use Rattle.ep_cs.specs.Change.{Change}
@@ -34,9 +35,11 @@ use Rattle.ep_pad.specs.declared.entries.PadReply.TheVariants as reply
 use Rattle.ep_wire_words.specs.Client.{ReadsClient}
 use Rattle.ep_wire_words.specs.ServerJson.{server_json}
 use Rattle.ep_wire_words.specs.declared.bad.WireBad.{WireBad}
+use Rattle.ep_wire_words.specs.declared.bad.WireBad.TheVariants.{Shape}
 use Rattle.ep_wire_words.specs.declared.client.ClientMsg.{ClientMsg}
 use Rattle.ep_wire_words.specs.declared.client.ClientMsg.TheVariants as msgs
 use Rattle.ep_wire_words.specs.declared.client.Resume.{Resume}
+use Rattle.ep_wire_words.specs.declared.member.Member.TheVariants.{Token}
 use Rattle.ep_wire_words.specs.declared.server.ServerMsg.{ServerMsg}
 use Rattle.ep_wire_words.specs.declared.server.ServerMsg.TheVariants as msg
 use Rattle.ep_slider.specs.declared.bad.SlideBad.TheVariants.{Granularity}
@@ -111,9 +114,18 @@ greeted at drawn got.Closed faults = Ends at ends.Closed
 greeted at drawn got.Failed faults = Ends at (ends.LinkFault faults)
 greeted at drawn got.NoMemory faults = Ends at ends.NoMemory
 
+-- a token of at most 1,024 bytes
+abbrev pub is_short : Text → Bool
+is_short token = nat_le (length (utf8_of token)) 1024
+
+-- who comes with a short token goes on to the directory
+abbrev pub admitted : Place → Drawn → Ready → Bool → Outcome
+admitted at drawn r true = Then at (Ask drawn r ∷ [])
+admitted at drawn r false = Ends at (ends.Bad (kind.Wire (Shape Token)))
+
 -- the first message has to be the one that logs in or resumes
 abbrev pub begun : Place → Drawn → Result ClientMsg WireBad → Outcome
-begun at drawn (Ok (msgs.Ready pad token sessions resume)) = Then at (Ask drawn (record { pad = pad; token = token; sessions = sessions; resume = resume }) ∷ [])
+begun at drawn (Ok (msgs.Ready pad token sessions resume)) = admitted at drawn (record { pad = pad; token = token; sessions = sessions; resume = resume }) (is_short token)
 begun at drawn (Ok m) = Ends at (ends.Bad kind.NotReady)
 begun at drawn (Err bad) = Ends at (end_of_wire bad)
 

@@ -1,11 +1,13 @@
 //! How a session begins: the first message, the grant, the pass of the pad, and the login or the resumption.
 
-ghost use Rattle.std.specs.Prelude.{◌≡◌, ◌≤◌, ℕ, [], ◌∷◌};
+ghost use Rattle.std.specs.Prelude.{◌≡◌, ◌⊎◌, ◌≤◌, ℕ, [], ◌∷◌, Err};
 ghost use Rattle.ep_cell.specs.History.{pairs};
 ghost use Rattle.ep_pad.specs.Histories.{IsLegalFrom};
 ghost use Rattle.ep_dir_records.specs.declared.ids.Drawn.{Drawn as AnyDrawn};
-ghost use Rattle.ep_session.specs.Session.{Ask, Fetch, Greet, Hear, Login, Rejoin, nowhere};
-ghost use Rattle.ep_session.specs.Says.{BegunAs, Done, Greets, IsCaused, OnLink};
+ghost use Rattle.ep_session.specs.Session.{Ask, Fetch, Greet, Hear, Login, Rejoin, admitted, is_short, nowhere};
+ghost use Rattle.ep_session.specs.Says.{BegunAs, Done, Greets, IsCaused, OnLink, first_of};
+ghost use Rattle.ep_session.specs.declared.end.End.TheVariants as ends;
+ghost use Rattle.ep_session.specs.declared.place.Place.{Place as AnyPlace};
 
 use crate::end::{BadKind, End};
 use crate::hear::MOST_BYTES;
@@ -17,9 +19,21 @@ use ep_outside::{Clock, Text};
 use ep_pad::PadPort;
 use ep_units::Grant;
 use ep_wire::read_client;
-use ep_wire_words::{ClientMsg, Resume, ServerMsg};
+use ep_wire_words::{ClientMsg, Member, Resume, ServerMsg, WireBad};
 use std::alloc::Global;
 use std::sync::Wait;
+
+// Who comes with a short token goes on.
+fn admit(alloc: Global, ready: Ready) -> Result<Ready, End>
+    ensures admitted { (result ≡ Err ends.NoMemory) ⊎ ((at : AnyPlace) (drawn : AnyDrawn) → admitted at drawn ready (is_short ready.token) ≡ first_of result at drawn) }
+    ensures cause { (before now : ℕ) → IsCaused result before now }
+{
+    if ready.has_short_token(alloc)? {
+        Ok(ready)
+    } else {
+        Err(End::Bad(BadKind::Wire(WireBad::Shape(Member::Token))))
+    }
+}
 
 // What a first text asks for.
 fn read_first(alloc: Global, text: &Text) -> Result<Ready, End>
@@ -34,12 +48,15 @@ fn read_first(alloc: Global, text: &Text) -> Result<Ready, End>
                 sessions,
                 resume,
             },
-        ) => Ok(Ready {
-            pad,
-            token,
-            sessions,
-            resume,
-        }),
+        ) => admit(
+            alloc,
+            Ready {
+                pad,
+                token,
+                sessions,
+                resume,
+            },
+        ),
         Ok(ClientMsg::Edit { .. } | ClientMsg::Slide { .. } | ClientMsg::Other) => {
             Err(End::Bad(BadKind::NotReady))
         }

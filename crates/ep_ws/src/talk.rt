@@ -11,9 +11,6 @@ use std::random::RandomSource;
 use std::time::Clock;
 use websocket::protocol::CloseCode;
 
-/// A receive waits so many milliseconds at most.
-const WAIT_MS: u64 = 20;
-
 /// So many frames, or reads, are passed over in one receive.
 const MOST_STEPS: u32 = 256;
 
@@ -56,7 +53,7 @@ impl<R: RandomSource + Drop> Talk<R> {
         &self.watch
     }
 
-    /// A message that is there; else what comes until a ring, or for about 20 milliseconds.
+    /// A message that is there; else what comes in a while, or until a ring.
     pub fn recv<C: Clock>(&mut self, clock: &C) -> LinkGot {
         if self.is_over {
             return LinkGot::Closed;
@@ -64,7 +61,7 @@ impl<R: RandomSource + Drop> Talk<R> {
         if let Some(got) = self.heard(clock) {
             return got;
         }
-        if self.watch.wait_for_either(WAIT_MS).is_err() {
+        if self.watch.wait_for_either().is_err() {
             return LinkGot::Failed;
         }
         match self.heard(clock) {

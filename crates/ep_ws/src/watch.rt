@@ -14,10 +14,19 @@ const SOCKET: Token = Token(0);
 
 const BELL: Token = Token(1);
 
+/// A wait that a ring may end lasts so many milliseconds at most. Who rings tells of all that is new, but a ring may be
+/// missed where there was no memory for an ear.
+const RUNG_MS: u64 = 1_000;
+
+/// The same of a wait of which nobody has the ear.
+const UNRUNG_MS: u64 = 20;
+
 /// Ends the wait of one watch.
 #[derive(Drop)]
 struct Bell {
     waker: Waker,
+    // somebody has its ear
+    has_ear: AtomicBool,
     // rung, and not heard yet
     is_rung: AtomicBool,
     // nobody waits any more
@@ -67,6 +76,7 @@ impl Watch {
         waiting.add(stream, SOCKET, Interest::READABLE | Interest::WRITABLE)?;
         let bell = Bell {
             waker: Waker::new(waiting.registry(), BELL)?,
+            has_ear: AtomicBool::new(false),
             is_rung: AtomicBool::new(false),
             is_gone: AtomicBool::new(false),
         };
@@ -87,20 +97,32 @@ impl Watch {
         self.waiting.wait(ms)
     }
 
-    /// Waits for the socket or a ring, so many milliseconds at most. A ring since the last such wait ends it at once.
-    pub fn wait_for_either(&mut self, ms: u64) -> io::Result<()> {
+    /// Waits for the socket or a ring, for a second at most, or for 20 milliseconds where nobody rings. A ring since the
+    /// last such wait ends it at once.
+    pub fn wait_for_either(&mut self) -> io::Result<()> {
         if self.hearing.bell.is_rung.swap(false, Ordering::SeqCst) {
             return Ok(());
         }
-        self.wait_for_socket(ms)?;
+        self.wait_for_socket(self.longest())?;
         self.hearing.bell.is_rung.store(false, Ordering::SeqCst);
         Ok(())
+    }
+
+    fn longest(&self) -> u64 {
+        if self.hearing.bell.has_ear.load(Ordering::SeqCst) {
+            RUNG_MS
+        } else {
+            UNRUNG_MS
+        }
     }
 
     /// None for want of memory.
     pub fn ear(&self) -> Option<WakeEar> {
         match Arc::try_clone(&self.hearing.bell) {
-            Ok(bell) => Some(WakeEar { bell }),
+            Ok(bell) => {
+                bell.has_ear.store(true, Ordering::SeqCst);
+                Some(WakeEar { bell })
+            }
             Err(_) => None,
         }
     }

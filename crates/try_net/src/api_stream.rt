@@ -117,7 +117,8 @@ fn hears_reply(alloc: Global, mut caller: TcpStream, bytes: usize) -> io::Result
 
 #[test]
 fn who_sends_more_than_is_read_hears_the_reply(rt: HostRuntime) -> Result<(), Fail> {
-    for bytes in [8, 9, 30_000] {
+    // Of what comes behind the eight bytes a mebibyte is read away.
+    for bytes in [8, 9, 30_000, 1_048_584] {
         let listener = TcpListener::bind(&rt, "127.0.0.1:0")?;
         let caller = call(&rt, &listener)?;
         let stream = taken(&rt, &listener, rt)?;

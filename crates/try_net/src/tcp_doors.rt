@@ -11,7 +11,7 @@ use std::random::RandomSource;
 use std::sync::Wait;
 use std::test::Fail;
 use std::time::{Clock, Duration};
-use std::{io, thread};
+use std::{fs, io, thread};
 
 const REQUEST: &[u8] = b"GET / HTTP/1.1\r\n\r\n";
 
@@ -221,6 +221,18 @@ fn connections_are_as_many_as_there_is_room_for(rt: HostRuntime) -> Result<(), F
         assert_eq!(rt; connections_under(&limits), connections);
     }
     assert_eq!(rt; connections_under(""), 4096);
+    Ok(())
+}
+
+#[test]
+fn the_systems_own_limits_are_read(rt: HostRuntime) -> Result<(), Fail> {
+    let limits = fs::read_to_string(&rt, "/proc/self/limits")?;
+    for name in ["Max processes ", "Max open files "] {
+        let is_there = limits.lines().any(|line| line.starts_with(name));
+        assert!(rt; is_there, "no {name}");
+    }
+    let files = limits.replace("Max open files  ", "Max open files 40 ")?;
+    assert!(rt; connections_under(&files) <= 10);
     Ok(())
 }
 

@@ -10,7 +10,7 @@ use std::net::{Net, SocketAddr};
 use std::random::RandomSource;
 use std::sync::Wait;
 use std::test::Fail;
-use std::time::{Clock, Duration};
+use std::time::{Clock, Duration, Instant};
 use std::{io, net, thread};
 
 // The example of RFC 6455, section 1.3.
@@ -240,6 +240,43 @@ fn both_sides(rt: HostRuntime) -> Result<(), Fail> {
     assert!(rt; !ear.ring());
     assert_eq!(rt; server.join(&rt), 3);
     Ok(())
+}
+
+// How many milliseconds so many receives take, to which nothing comes.
+fn waits(rt: &HostRuntime, link: &mut WsLink<HostRuntime>, receives: u32) -> io::Result<u128> {
+    let begun = Instant::now(rt)?;
+    for _ in 0..receives {
+        if !matches!(link.recv(rt), LinkGot::Nothing) {
+            return Ok(0);
+        }
+    }
+    Ok(begun.elapsed(rt)?.as_millis())
+}
+
+#[test]
+fn whose_ear_is_taken_waits_for_a_ring(rt: HostRuntime) -> Result<(), Fail> {
+    let (mut caller, mut link) = called(&rt)?;
+    assert!(rt; caller.write_all(REQUEST).is_ok());
+    assert!(rt; matches!(link.recv(&rt), LinkGot::Nothing));
+    let _ear = link.ear();
+    // The first may end at once, since there is room to write.
+    assert!(rt; matches!(waits(&rt, &mut link, 3), Ok(1_900..)));
+    Ok(())
+}
+
+#[test]
+fn the_usual_patience(rt: HostRuntime) {
+    let Patience {
+        call,
+        first,
+        message,
+        ping,
+        answer,
+    } = Patience::USUAL;
+    assert_eq!(rt;
+        [call, first, message, ping, answer],
+        [10_000, 10_000, 30_000, 30_000, 60_000]
+    );
 }
 
 #[test]
