@@ -358,6 +358,12 @@ fn judges_files(rt: HostRuntime) -> Result<(), Fail> {
         (b"".as_slice(), "", 0),
         (b"EPADJNL1\0".as_slice(), "\"p\" absent\n", 0),
         (b"0123456789".as_slice(), "\"p\" foreign\n", 1),
+        // an opening, and then a flag that no pad has yet
+        (
+            b"EPADJNL1\x01\0\0\0\x09\x01\0\0\0\0\0\0\0\x01\x01\0\0\0\x02\x05\x01\0".as_slice(),
+            "\"p\" record 1\n",
+            1,
+        ),
     ] {
         let case = Case {
             file,
@@ -365,6 +371,57 @@ fn judges_files(rt: HostRuntime) -> Result<(), Fail> {
         };
         assert!(rt;
             comes_to(&rt, rt.alloc(), case, output, code)?,
+            "at {output}"
+        );
+    }
+    Ok(())
+}
+
+/// These bytes, and 1 MiB of noise behind them.
+fn noise_behind(alloc: Global, front: &[u8]) -> Result<Vec<u8>, NoMemory> {
+    let mut bytes = Vec::from_slice(alloc, front)?;
+    let mut state: u64 = 1;
+    for _ in 0..1_048_576u32 {
+        state = state
+            .wrapping_mul(6_364_136_223_846_793_005)
+            .wrapping_add(1_442_695_040_888_963_407);
+        let [byte, ..] = state.to_be_bytes();
+        bytes.push(byte)?;
+    }
+    Ok(bytes)
+}
+
+/// Whether a file of noise is judged so.
+fn noise_is<R: Wait + Threads>(
+    rt: &R,
+    alloc: Global,
+    front: &[u8],
+    output: &str,
+    code: u8,
+) -> Result<bool, Fail> {
+    let file = noise_behind(alloc, front)?;
+    let case = Case {
+        file: &file,
+        ..Case::of("verify d 2")
+    };
+    comes_to(rt, alloc, case, output, code)
+}
+
+#[test]
+fn judges_noise(rt: HostRuntime) -> Result<(), Fail> {
+    for (front, output, code) in [
+        // no gate; a gate and a length above the greatest; a record of noise, the first and behind an opening
+        (b"EPADJNL1".as_slice(), "\"p\" absent\n", 0),
+        (b"EPADJNL1\x01\xff".as_slice(), "\"p\" absent\n", 0),
+        (b"EPADJNL1\x01\0\x0f\0\0".as_slice(), "\"p\" record 0\n", 1),
+        (
+            b"EPADJNL1\x01\0\0\0\x09\x01\0\0\0\0\0\0\0\x01\x01\0\x0f\0\0".as_slice(),
+            "\"p\" record 1\n",
+            1,
+        ),
+    ] {
+        assert!(rt;
+            noise_is(&rt, rt.alloc(), front, output, code)?,
             "at {output}"
         );
     }

@@ -1,6 +1,12 @@
 //! What of the outside the words speak of.
 
-use ep_words::{Command, read_words};
+ghost use Rattle.std.specs.Prelude.{map, IfOk};
+ghost use Rattle.std.specs.String.{string_bytes};
+ghost use Rattle.ep_words.specs.Lines.{line_in};
+ghost use Rattle.ep_real.specs.Spoken.{SpeaksBy};
+
+use ep_units::NoMemory;
+use ep_words::{Command, WordsBad, read_words};
 use std::alloc::Global;
 
 /// What of the outside the words speak of. What they don't is empty.
@@ -32,7 +38,9 @@ const NOTHING: Spoken<'static> = Spoken {
 };
 
 /// What the words speak of.
-pub fn spoken_by(alloc: Global, words: &[String]) -> Spoken<'_> {
+pub fn spoken_by(alloc: Global, words: &[String]) -> Result<Spoken<'_>, NoMemory>
+    ensures { IfOk result (λ spoken. SpeaksBy (line_in (map string_bytes words.entry.now)) spoken) }
+{
     match read_words(alloc, words) {
         Ok(
             Command::Serve {
@@ -41,22 +49,23 @@ pub fn spoken_by(alloc: Global, words: &[String]) -> Spoken<'_> {
                 dir,
                 key,
             },
-        ) => Spoken {
+        ) => Ok(Spoken {
             serves: true,
             pads,
             api,
             folder: dir,
             key,
             ..NOTHING
-        },
-        Ok(Command::Write { addr, .. }) => Spoken {
+        }),
+        Ok(Command::Write { addr, .. }) => Ok(Spoken {
             server: addr,
             ..NOTHING
-        },
-        Ok(Command::Verify { dir, .. }) => Spoken {
+        }),
+        Ok(Command::Verify { dir, .. }) => Ok(Spoken {
             judged: dir,
             ..NOTHING
-        },
-        _ => NOTHING,
+        }),
+        Ok(Command::Play { .. } | Command::Make { .. }) | Err(WordsBad::Usage) => Ok(NOTHING),
+        Err(WordsBad::NoMemory) => Err(NoMemory),
     }
 }

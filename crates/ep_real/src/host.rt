@@ -1,32 +1,26 @@
-//! The real devices.
+//! Who does what is done for a caller.
+
+ghost use Rattle.std.specs.Prelude.{◌≡◌, IfOk};
+ghost use Rattle.ep_pad_port.specs.House.{limits_of};
+ghost use Rattle.ep_real.specs.Limits.{server_limits};
 
 use crate::keeping::RealKeeper;
-use crate::missing::{Missing, Opened, judged_at};
+use crate::opened::Opened;
 use crate::shelf::RealShelf;
-use crate::spoken::{Spoken, spoken_by};
-use ep_doors::{Host, Job, ThreadSpawner};
-use ep_edge::{StdSink, StdSource, SysClock, SysDraws};
-use ep_net::{ApiStream, Bounds, TcpDoors, WakeEar, WsLink, connections_under};
+use ep_doors::{Host, Job};
+use ep_edge::{SysClock, SysDraws};
+use ep_net::{ApiStream, WakeEar, WsLink};
 use ep_outside::{Keeper, Limits, Shelf};
 use ep_pad_port::{House, HouseOf, PadCalls};
-use ep_run::{Status, run};
 use ep_serve::{Server, Serving};
-use ep_shown::ShownShelf;
 use ep_units::NoMemory;
-use std::fs::{File, Files};
-use std::io::{Eprint, Input, Print};
+use std::alloc::Global;
 use std::net::Net;
 use std::random::RandomSource;
 use std::sync::Wait;
-use std::thread::Threads;
 use std::time::Clock;
-use std::{fs, io};
 
-// Where the system tells what a process may have.
-const LIMITS_OF_PROCESS: &str = "/proc/self/limits";
-
-/// What the pads of a server are held to: sessions at a time and in all of one opening, units of a text, bytes of a
-/// pad's file, and pads that are open.
+/// What the pads of a server are held to.
 const LIMITS: Limits = Limits {
     live: 500,
     logins: 1_000_000,
@@ -104,8 +98,34 @@ impl<R: Wait + Net + RandomSource + Clock + Copy + Drop> Job for RealJob<R> {
 
 /// The server over a folder's pads.
 #[derive(Drop)]
-struct RealServer<R: Wait + Net + RandomSource + Clock + Copy + Drop> {
+pub struct RealServer<R: Wait + Net + RandomSource + Clock + Copy + Drop> {
     server: Server<RealHouse<R>, WakeEar, SysClock<R>, SysDraws<R>>,
+}
+
+/// The house of a folder's pads, held to the limits of a server.
+fn house_over<R: Wait + Drop>(
+    alloc: Global,
+    pads: RealShelf,
+    keeper: RealKeeper<R>,
+) -> Result<RealHouse<R>, NoMemory>
+    ensures limits { IfOk result (λ house. limits_of house ≡ server_limits) }
+{
+    House::open(alloc, pads, keeper, LIMITS)
+}
+
+impl<R: Wait + Net + RandomSource + Clock + Copy + Drop> RealServer<R> {
+    /// The server of what was opened.
+    pub fn new(
+        rt: R,
+        alloc: Global,
+        opened: Opened,
+        keeper: RealKeeper<R>,
+    ) -> Result<RealServer<R>, NoMemory> {
+        let Opened { pads, key } = opened;
+        let house = house_over(alloc, pads, keeper)?;
+        let server = Server::new(alloc, house, SysClock::new(rt), SysDraws::new(rt), key)?;
+        Ok(RealServer { server })
+    }
 }
 
 impl<R: Wait + Net + RandomSource + Clock + Copy + Drop> Host<WsLink<R>, ApiStream<R>>
@@ -123,69 +143,4 @@ impl<R: Wait + Net + RandomSource + Clock + Copy + Drop> Host<WsLink<R>, ApiStre
             work: api_at(&mut self.server, caller)?,
         })
     }
-}
-
-/// The doors that the words speak of, or the way to them. Connections are as many as the process has room for.
-fn doors_of<R: Files<File = File> + Net + RandomSource + Clock + AllocGlobal + Copy + Drop>(
-    rt: R,
-    spoken: &Spoken<'_>,
-) -> Result<TcpDoors<R>, Missing> {
-    let alloc = rt.alloc();
-    if !spoken.server.is_empty() {
-        return Ok(TcpDoors::calling(rt, alloc, spoken.server)?);
-    }
-    let limits = fs::read_to_string(&rt, LIMITS_OF_PROCESS).unwrap_or(String::new(alloc));
-    let bounds = Bounds::of_connections(connections_under(limits.as_str()));
-    let doors = TcpDoors::open(rt, alloc, spoken.pads, spoken.api, bounds)?;
-    if spoken.serves && doors.pads_address().is_none() {
-        return Err(Missing::Address);
-    }
-    Ok(doors)
-}
-
-/// Runs the program over the real devices. Those that the words don't speak of fail. Where a person watches standard
-/// error, it shows there how far long work is.
-pub fn run_real<R>(
-    rt: R,
-    is_watched: bool,
-    words: &[String],
-    opened: Opened,
-    keeper: RealKeeper<R>,
-    mut spawner: ThreadSpawner<RealJob<R>>,
-) -> Result<Status, Missing>
-where
-    R: Wait
-        + Threads
-        + Net
-        + RandomSource
-        + Clock
-        + Input
-        + Print
-        + Eprint
-        + AllocGlobal
-        + Files<File = File>
-        + Copy
-        + Drop,
-{
-    let alloc = rt.alloc();
-    let Opened { pads, key } = opened;
-    let spoken = spoken_by(alloc, words);
-    let mut source = StdSource::new(rt.reader());
-    let mut sink = StdSink::new(io::writer(&rt));
-    let mut shelf = ShownShelf::new(judged_at(&rt, spoken.judged)?, rt, is_watched);
-    let mut doors = doors_of(rt, &spoken)?;
-    let house = House::open(alloc, pads, keeper, LIMITS)?;
-    let server = Server::new(alloc, house, SysClock::new(rt), SysDraws::new(rt), key)?;
-    let mut host = RealServer { server };
-    Ok(run(
-        &rt,
-        alloc,
-        words,
-        &mut source,
-        &mut sink,
-        &mut shelf,
-        &mut doors,
-        &mut host,
-        &mut spawner,
-    ))
 }

@@ -9,14 +9,13 @@ use Rattle.ep_pad.proofs.machine.PadMachine.TheSendSync as machine
 use Rattle.ep_pad_port.proofs.Crossing.{house_send, house_sync}
 use Rattle.ep_serve.proofs.work.Work.TheSendSync as work
 use Rattle.ep_serve.specs.contracts.work.Work as served
-use Rattle.padd.specs.contracts.keeping.Teller as teller
-use Rattle.padd.specs.contracts.real.RealJob as real_job
-use Rattle.padd.specs.contracts.missing.Opened as opened
-use Rattle.padd.specs.contracts.shelf.RealDisk as real_disk
-use Rattle.padd.specs.contracts.shelf.RealShelf as real_shelf
+use Rattle.ep_real.specs.contracts.host.RealJob as real_job
+use Rattle.ep_real.specs.contracts.keeping.Teller as teller
+use Rattle.ep_real.specs.contracts.shelf.RealDisk as real_disk
+use Rattle.ep_real.specs.contracts.shelf.RealShelf as real_shelf
 use Rattle.ep_edge.specs.contracts.sys_clock.SysClock as sys_clock
 use Rattle.ep_edge.specs.contracts.sys_draws.SysDraws as sys_draws
-use Rattle.ep_doors.specs.contracts.thread_spawner.ThreadSpawner as spawner
+use Rattle.ep_doors.specs.contracts.thread_spawner.Starter as starter
 use Rattle.ep_net.specs.contracts.api_stream.ApiStream as api_stream
 use Rattle.ep_ws.specs.contracts.watch.WakeEar as wake_ear
 use Rattle.ep_ws.specs.contracts.ws_link.WsLink as ws_link
@@ -25,17 +24,14 @@ use Rattle.ep_keep_far.proofs.Crossing.{far_send}
 pub shelf_sends : IsSend real_shelf.the_row
 shelf_sends = search (sendable, crosses) depth 30
 
-pub opened_sends : IsSend opened.the_row
-opened_sends = search (sendable, crosses, shelf_sends) depth 30
-
 pub disk_sends : IsSend real_disk.the_row
 disk_sends = search (sendable, crosses) depth 30
 
 pub teller_sends : (R : RattleType) → IsSend R → IsSend (teller.the_row R)
 teller_sends R r = declared_send (teller.the_type R) (search (sendable, crosses, far_send) depth 100 fits 1000000, tt)
 
-pub spawner_sends : (J : RattleType) → IsSend J → IsSend (spawner.the_row J)
-spawner_sends J j = search (sendable, crosses) depth 100 fits 1000000
+pub starter_sends : (J : RattleType) → IsSend J → IsSend (starter.the_row J)
+starter_sends J j = search (sendable, crosses) depth 100 fits 1000000
 
 work_sends : (P L A C D E : RattleType) → IsSend P → IsSend L → IsSend A → IsSend C → IsSend D → IsSend E → IsSync P → IsSync C → IsSend (as_row (served.the_field P L A C D E))
 work_sends P L A C D E p l a c d e ps cs = as_row_send (served.the_field P L A C D E) (work.the_field_send P L A C D E p l a c d e ps cs)
