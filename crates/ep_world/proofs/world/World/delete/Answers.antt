@@ -26,6 +26,6 @@ returns-in-Err-clause-plays g c = λ alone rs w ks run s.
 pub returns-in-Err-clause-ends : goal.returns-in-Err-clause-ends
 returns-in-Err-clause-ends g c = λ alone rs w ks run s.
     rw c.refused.ensures
-    (refused-ends alone rs w c.args.now (told.Delete) _ _ verb.Drop None c.in-Err.bad
+    (refused-ends alone (told.Delete) _ _ verb.Drop None c.in-Err.bad
     (err-counts g.D.Disk.told g.D.Device.failures g.D.Disk.stops_alone alone rs c.args.self.now.machine c.delete.new.self w.pad (Delete c.args.now) (λ _. Done) c.delete.result c.in-Err.bad s.machine
     (λ st k x. let y = c.delete.ensures.steps st k x in (y.0, y.1, y.2, y.4.alone)) c.in-Err.is))

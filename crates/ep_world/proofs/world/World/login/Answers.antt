@@ -39,6 +39,6 @@ returns-clause-plays g c = λ alone rs w ks run s.
 pub returns-clause-ends : goal.returns-clause-ends
 returns-clause-ends g c = λ alone rs w ks run s.
     rw c.refused.ensures
-    (refused-ends alone rs w c.args.now (told.Login c.args.name) _ _ verb.Login (Some c.args.name) c.in-Err.bad
+    (refused-ends alone (told.Login c.args.name) _ _ verb.Login (Some c.args.name) c.in-Err.bad
     (err-counts g.D.Disk.told g.D.Device.failures g.D.Disk.stops_alone alone rs c.args.self.now.machine c.login.new.self w.pad (Login c.in_ok-grant.grant c.args.now) (λ x. LoginAnswer (welcome_of x)) c.login.result c.in-Err.bad s.machine
     (λ st k x. let y = c.login.ensures.steps st k x in (y.0, y.1, y.2, y.4.alone)) c.in-Err.is))
