@@ -44,7 +44,7 @@ use Rattle.ep_pad.specs.Held.{Held}
 use Rattle.ep_pad.specs.Opening.{IsFullThen, IsWoken, Sleeps, stopped}
 use Rattle.ep_pad.specs.Opening.IsWoken.{Was, Opened}
 use Rattle.ep_pad.specs.Standing.{Stands, opening, replied}
-use Rattle.ep_pad.specs.Stopping.{HasNoRoom, StaysStopped, StopsIn}
+use Rattle.ep_pad.specs.Stopping.{HasNoRoom as NoRoomBehind, StaysStopped, StopsIn}
 use Rattle.ep_pad.specs.Stopping.HasNoRoom.{FullBefore, FullBehind}
 use Rattle.ep_pad.specs.Stopping.StaysStopped.{Before, Behind}
 use Rattle.ep_pad_file.specs.Stopping.{gate_behind, is_kept}
@@ -577,7 +577,7 @@ module _ {D : Type 0} (told_by : D → Option Contents) (failures : D → ℕ) (
 
   abbrev pub FullAlone : MachineState → Entry → ℕ → ℕ → Image → Held D → Type 0
   FullAlone st e n calls image new =
-      (last : MachineState) × HasNoRoom st e (λ mid. is_kept (gate_behind mid.records) calls image) (bad.JournalFull n) last × Stands told_by failures new last
+      (last : MachineState) × NoRoomBehind st e (λ mid. is_kept (gate_behind mid.records) calls image) (bad.JournalFull n) last × Stands told_by failures new last
 
   -- of this state
   module _ (new : Held D) (st : MachineState) (s : Session) (now : ℕ) (msg : Message) (reply : Reply) (calls : ℕ) (image : Image) (i : is_edit msg.change.edit ≡ true) (k : IsKeptState st)
@@ -645,7 +645,7 @@ module _ {D : Type 0} (told_by : D → Option Contents) (failures : D → ℕ) (
         at : MachineState
         at = found-at st s now msg has
 
-        go : HasNoRoom st (Accept s msg.base msg.change now) (λ mid. is_kept (gate_behind mid.records) calls image) (bad.JournalFull n) x.0
+        go : NoRoomBehind st (Accept s msg.base msg.change now) (λ mid. is_kept (gate_behind mid.records) calls image) (bad.JournalFull n) x.0
             → BreaksOff told_by failures stops_alone alone st.records st.pad now (Some (s, msg)) calls image new
         go (FullBefore z) = absurd (not-before x.0 z)
         go (FullBehind mid w full) =
