@@ -4,7 +4,8 @@
 memory.py PROGRAM: PROGRAM is padd, as `tools/unproved padd` or `rt run` builds it. Two scripts are played: a session that is
 lost and comes back, and a crash within a take, at each place of it. For each number N the program runs once, and its Nth
 allocation is refused. It has to end with status 0 and all that it writes else, or with status 7 (memory ran out) or 5
-(standard output failed) and a beginning of that. Another end is printed, and the exit status is then 1.
+(standard output failed) and a beginning of that, or with status 9 and nothing written where no thread could be started for
+it. Another end, or none in ten seconds, is printed, and the exit status is then 1.
 
 It wants a C compiler (cc), and a program that takes its memory from the system's malloc.
 """
@@ -44,15 +45,23 @@ def play(program, shim, script, number):
     """The status of a run whose allocation of this number is refused, what it wrote, and whether it was refused one."""
     end, told = os.pipe()
     env = {"LD_PRELOAD": shim, "MEMORY_TOLD": str(told), "MEMORY_REFUSED": str(number)}
-    ran = subprocess.run([program, "play"], input=script.encode(), capture_output=True, env=env, pass_fds=[told], timeout=60)
+    try:
+        ran = subprocess.run(
+            [program, "play"], input=script.encode(), capture_output=True, env=env, pass_fds=[told], timeout=10
+        )
+        status, wrote = ran.returncode, ran.stdout
+    except subprocess.TimeoutExpired:
+        status, wrote = "none", b""
     os.close(told)
     refused = os.read(end, 1)
     os.close(end)
-    return ran.returncode, ran.stdout, bool(refused)
+    return status, wrote, bool(refused)
 
 
 def is_well(status, wrote, wanted):
-    return (status == 0 and wrote == wanted) or (status in (5, 7) and wanted.startswith(wrote))
+    if status == 0:
+        return wrote == wanted
+    return (status in (5, 7) and wanted.startswith(wrote)) or (status == 9 and not wrote)
 
 
 def try_script(program, shim, script):
@@ -70,7 +79,7 @@ def try_script(program, shim, script):
         if not is_well(status, wrote, wanted):
             others += 1
             print(f"allocation {number} of {script.splitlines()[4]}: status {status}, {wrote!r}")
-    print(f"{number - 1} allocations refused, by status {dict(sorted(ends.items()))}")
+    print(f"{number - 1} allocations refused, by status {dict(sorted(ends.items(), key=str))}")
     return number - 1, others
 
 

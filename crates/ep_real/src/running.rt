@@ -21,7 +21,8 @@ use std::io::{Eprint, Input, Print};
 use std::net::Net;
 use std::random::RandomSource;
 use std::sync::Wait;
-use std::thread::{Threads, join};
+use std::thread;
+use std::thread::Threads;
 use std::time::Clock;
 
 /// Runs the program over the real devices, this host and this spawner.
@@ -100,12 +101,13 @@ where
         starter,
     } = begun;
     let host = RealServer::new(rt, rt.alloc(), opened, keeper)?;
-    // The threads of callers are started by a thread of its own; what the words ask for is done in this one.
-    let ((), ended) = join(
-        &rt,
-        move || start_all(&rt, starter),
-        || run_over(rt, is_watched, words, host, spawner, doors),
-    );
+    // The threads of callers are started by a thread of its own, which ends once the spawner is gone; what the words ask
+    // for is done in this one.
+    let Ok(starting) = thread::spawn(&rt, move || start_all(&rt, starter)) else {
+        return Err(Missing::Thread);
+    };
+    let ended = run_over(rt, is_watched, words, host, spawner, doors);
+    starting.join(&rt);
     ended
 }
 
