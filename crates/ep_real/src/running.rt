@@ -16,14 +16,13 @@ use ep_edge::{StdSink, StdSource};
 use ep_run::{Status, run};
 use ep_shown::ShownShelf;
 use std::fs::{File, Files};
-use std::io;
 use std::io::{Eprint, Input, Print};
 use std::net::Net;
 use std::random::RandomSource;
 use std::sync::Wait;
-use std::thread;
 use std::thread::Threads;
 use std::time::Clock;
+use std::{io, thread};
 
 /// Runs the program over the real devices, this host and this spawner.
 fn run_over<R>(
