@@ -650,10 +650,10 @@ module _ {D : Type 0} (told_by : D → Option Contents) (failures : D → ℕ) (
         go (FullBefore z) = absurd (not-before x.0 z)
         go (FullBehind mid w full) =
             let f = turn-found st s now msg i (k.whole o) has in
-            let behind : IsFullThen (stopped at) (bad.JournalFull n) x.0 =
+            let asleep : IsFullThen (stopped at) (bad.JournalFull n) x.0 =
             subst (λ (m : MachineState). IsFullThen (stopped (if is_kept (gate_behind m.records) calls image then (turn size m (Accept s msg.base msg.change now)).state else m)) (bad.JournalFull n) x.0)
             (awake st mid o w) full in
-            let r = stays-shut new at x.0 n (found-kept new st s now msg (Err bad.NoMemory) calls image i k o mark has) (full-asleep at x.0 n f.settled behind) x.2 mark in
+            let r = stays-shut new at x.0 n (found-kept new st s now msg (Err bad.NoMemory) calls image i k o mark has) (full-asleep at x.0 n f.settled asleep) x.2 mark in
             breaks-at new st s now msg (Err bad.NoMemory) calls image i k o mark at (decided st s now msg has) r (settled-whole r.0 at f.settled ∙ f.pad) (settled-records r.0 at f.settled ∙ f.records) (λ _. refl)
 
   -- The first message of a name, whose text spells a change: what is known of the entry that it makes.
