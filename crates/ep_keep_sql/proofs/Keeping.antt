@@ -22,7 +22,7 @@ use Rattle.ep_outside.specs.declared.keeper.Put.{Put}
 use Rattle.ep_outside.specs.Kept.{after, listed, value_at, Gets, IsTold, Lists, Puts, Rises, Stays}
 use Rattle.ep_keep_sql.specs.Inside.{Rests}
 use Rattle.ep_keep_sql.specs.KeptTable.{kept_schema}
-use Rattle.ep_keep_sql.specs.Keeps.{Answers, GoesOn, began_well, is_ours, map_of, same_code, serves, told_of, Goes, is_kept, is_kept_at, rises_if, rises_told}
+use Rattle.ep_keep_sql.specs.Keeps.{Answers, GoesOn, NeverFails, tells_where, began_well, is_ours, map_of, same_code, serves, told_of, Goes, is_kept, is_kept_at, rises_if, rises_told}
 use Rattle.ep_keep_sql.specs.Told.{map_in, Holds}
 use Rattle.ep_keep_sql.proofs.Removes.{tells}
 use Rattle.ep_keep_sql.proofs.Without.{told_rises}
@@ -176,6 +176,36 @@ tells_on g first h k change goes turns clean told = go (began_well g first) told
 told_where : (o : Option (List Pair)) → IsTrue (is_some o) → IsTold o
 told_where None h = absurd (true≢false (sym h))
 told_where (Some m) h = tt
+
+-- where no fault is ever counted
+no_more : (x y : ℕ) → x ≡ 0 → y ≡ 0 → MoreFaults x y → ⊥
+no_more x y none still more = omega arith
+
+some_told : (o : Option (List Pair)) → IsTold o → IsTrue (is_some o)
+some_told None told = absurd told
+some_told (Some m) told = refl
+
+-- what always tells goes on to
+pub still_telling : {S : Type 0} (g : Ghosts S) (first old : Option (Held S)) (k : Held S) (always : Bool) → (IsTrue always → NeverFails g) → GoesOn g old (Some k) (told_of g first old) (told_of g first (Some k))
+    → IsTrue (tells_where always (told_of g first old)) → IsTrue (tells_where always (told_of g first (Some k)))
+still_telling g first old k false never goes was = refl
+still_telling g first None k true never goes was = absurd (true≢false (sym was))
+still_telling g first (Some h) k true never goes was =
+    let store = never refl in
+    elim (goes (store k).0 (told_where (told_of g first (Some h)) was)) [ inl told ↦ some_told (told_of g first (Some k)) told | inr more ↦ absurd (no_more (state g h).faults (state g k).faults (store h).1 (store k).1 more) ]
+
+-- one that isn't marked so may fall silent
+pub no_mark : {S : Type 0} (g : Ghosts S) (always : Bool) → always ≡ false → IsTrue always → NeverFails g
+no_mark g always e is = absurd (true≢false (sym is ∙ e))
+
+pub no_telling : (always : Bool) (told : Option (List Pair)) → always ≡ false → IsTrue (tells_where always told)
+no_telling always told e = subst (λ b. IsTrue (tells_where b told)) (sym e) refl
+
+pub memory_never_fails : NeverFails over_memory
+memory_never_fails h = (memory_is_clean h, refl)
+
+pub telling_now : (told : Option (List Pair)) (m : List Pair) → told ≡ Some m → IsTrue (tells_where true told)
+telling_now told m e = ap is_some e
 
 -- ---- what a keeper always tells
 

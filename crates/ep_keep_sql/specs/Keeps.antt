@@ -1,7 +1,8 @@
 -- What a keeper over a connection tells, and what its calls keep true.
-use Rattle.std.specs.Prelude.{◌≡◌, ◌≤◌, ◌⊎◌, ◌==◌, ◌&&◌, Bool, true, false, IsTrue, List, Option, None, Some, is_some, if◌then◌else◌}
+use Rattle.std.specs.Prelude.{◌≡◌, ◌≤◌, ◌⊎◌, ◌==◌, ◌&&◌, ℕ, Bool, true, false, IsTrue, List, Option, None, Some, is_some, if◌then◌else◌}
+use Rattle.std.proofs.Common.{true≢false, sym}
 use base.Stored.{Gv, gnil, gnum, gcons}
-use Rattle.std.specs.Coded.{Coded-set, Unit-prop, coded_bool}
+use Rattle.std.specs.Coded.{Coded-set, Unit-prop, coded_bool, coded_ℕ, ×_prop, Π_prop}
 use Rattle.sqlite.specs.View.{doubt}
 use Rattle.sqlite.specs.Disk.{MoreFaults}
 use Rattle.sqlite.specs.State.{State, HasCleanDisk}
@@ -94,3 +95,20 @@ GoesOn g old new told now = IsHonest g new → IsTold told → IsTold now ⊎ Ha
 abbrev pub Answers : {S : Type 0} → Ghosts S → Option (Held S) → Option (Held S) → Option (List Pair) → Type 0
 Answers g first None told = ⊥
 Answers g first (Some h) told = HasCleanDisk (state g h) → IsTrue (began_well g first) → IsTold told
+
+-- whatever it holds, such a store's disk has not lied, and no fault is counted: memory is so
+abbrev pub NeverFails : {S : Type 0} → Ghosts S → Type 0
+NeverFails {S} g = (h : Held S) → HasCleanDisk (state g h) × ((state g h).faults ≡ 0)
+
+-- that has one proof
+pub NeverFails-prop : {S : Type 0} (g : Ghosts S) → (always : Bool) → IsProp (IsTrue always → NeverFails g)
+NeverFails-prop g always = Π_prop (λ _. Π_prop (λ h. ×_prop (Coded-set coded_ℕ (doubt (state g h).is_clean) 0) (Coded-set coded_ℕ (state g h).faults 0)))
+
+-- a map is told where one always is
+abbrev pub tells_where : Bool → Option (List Pair) → Bool
+tells_where always told = if always then is_some told else true
+
+pub always_told : (always : Bool) (told : Option (List Pair)) → IsTrue (tells_where always told) → always ≡ true → IsTold told
+always_told false told h e = absurd (true≢false (sym e))
+always_told true None h e = absurd (true≢false (sym h))
+always_told true (Some m) h e = tt
