@@ -85,8 +85,8 @@ if-ok (Ok x) P Q f p = f p
 if-ok (Err e) P Q f p = tt
 
 -- what is said of a refusal holds where it was this one
-pub behind-full : {A : Type 0} {r : Result A PadBad} {b : PadBad} {P : PadBad → Type 0} → r ≡ Err b → {c : PadBad} → b ≡ c → IfErr r (λ x. x ≡ c → P x) → P b
-behind-full {A} {r} {b} {P} is {c} same h = subst (λ y. IfErr y (λ x. x ≡ c → P x)) is h same
+pub behind-full : {A : Type 0} (P : PadBad → Type 0) (r : Result A PadBad) (b : PadBad) → r ≡ Err b → IfErr r (λ x. x ≡ b → P x) → P b
+behind-full P r b is h = subst (λ y. IfErr y (λ x. x ≡ b → P x)) is h refl
 
 -- a program's answer that isn't want of memory is none by the rules
 pub not-lacking : {A : Type 0} (f : A → Answer) (r : Result A PadBad) → (r ≡ Err bad.NoMemory → ⊥) → replied f r ≡ Err bad.NoMemory → ⊥
