@@ -1,7 +1,7 @@
 -- What a crash comes to, and an opening.
 use Rattle.std.proofs.Common.{◌≡◌, ℕ, suc, ◌<◌, Bool, true, false, not, List, [], ◌∷◌, ◌++◌, length, Option, Some, None, Result, Ok, Err, ◌⊎◌, inl, inr, if◌then◌else◌, refl, sym, ap, ◌∙◌, subst, arith}
 use Rattle.std.specs.Option.{option_map}
-use Rattle.std.specs.Prelude.{◌&&◌, IfOk, MatchResult, is_none}
+use Rattle.std.specs.Prelude.{◌&&◌, IfOk, MatchResult, is_none, IfErr}
 use Rattle.std.proofs.lemmas.List.{length-append}
 use Rattle.ep_units.specs.Text.{text_eq}
 use Rattle.ep_units.specs.declared.session.Session.{Session}
@@ -85,8 +85,8 @@ if-ok (Ok x) P Q f p = f p
 if-ok (Err e) P Q f p = tt
 
 -- what is said of a refusal holds where it was this one
-pub behind-full : {A : Type 0} {r : Result A PadBad} {b : PadBad} {P : PadBad → Type 0} → r ≡ Err b → {c : PadBad} → b ≡ c → IfErr r (λ x. x ≡ c → P x) → P b
-behind-full {A} {r} {b} {P} is {c} same h = subst (λ y. IfErr y (λ x. x ≡ c → P x)) is h same
+pub behind-full : {A : Type 0} (P : PadBad → Type 0) (r : Result A PadBad) (b : PadBad) → r ≡ Err b → IfErr r (λ x. x ≡ b → P x) → P b
+behind-full P r b is h = subst (λ y. IfErr y (λ x. x ≡ b → P x)) is h refl
 
 -- a program's answer that isn't want of memory is none by the rules
 pub not-lacking : {A : Type 0} (f : A → Answer) (r : Result A PadBad) → (r ≡ Err bad.NoMemory → ⊥) → replied f r ≡ Err bad.NoMemory → ⊥
@@ -650,10 +650,10 @@ module _ {D : Type 0} (told_by : D → Option Contents) (failures : D → ℕ) (
         go (FullBefore z) = absurd (not-before x.0 z)
         go (FullBehind mid w full) =
             let f = turn-found st s now msg i (k.whole o) has in
-            let then : IsFullThen (stopped at) (bad.JournalFull n) x.0 =
+            let asleep : IsFullThen (stopped at) (bad.JournalFull n) x.0 =
             subst (λ (m : MachineState). IsFullThen (stopped (if is_kept (gate_behind m.records) calls image then (turn size m (Accept s msg.base msg.change now)).state else m)) (bad.JournalFull n) x.0)
             (awake st mid o w) full in
-            let r = stays-shut new at x.0 n (found-kept new st s now msg (Err bad.NoMemory) calls image i k o mark has) (full-asleep at x.0 n f.settled then) x.2 mark in
+            let r = stays-shut new at x.0 n (found-kept new st s now msg (Err bad.NoMemory) calls image i k o mark has) (full-asleep at x.0 n f.settled asleep) x.2 mark in
             breaks-at new st s now msg (Err bad.NoMemory) calls image i k o mark at (decided st s now msg has) r (settled-whole r.0 at f.settled ∙ f.pad) (settled-records r.0 at f.settled ∙ f.records) (λ _. refl)
 
   -- The first message of a name, whose text spells a change: what is known of the entry that it makes.

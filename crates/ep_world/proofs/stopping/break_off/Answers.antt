@@ -1,8 +1,11 @@
-use Rattle.std.proofs.Common.{◌≡◌, Err, refl}
+use Rattle.std.proofs.Common.{◌≡◌, Err}
 use Rattle.ep_history.specs.Entries.Answer.{CommitAnswer}
 use Rattle.ep_history.specs.Entries.Entry.{Accept}
 use Rattle.ep_history.specs.declared.pad_bad.PadBad.TheVariants as bad
-use Rattle.ep_pad.specs.Standing.{replied}
+use Rattle.ep_history.specs.Machine.{MachineState}
+use Rattle.ep_pad_file.specs.Stopping.{gate_behind, is_kept}
+use Rattle.ep_pad.specs.Standing.{Stands, replied}
+use Rattle.ep_pad.specs.Stopping.{HasNoRoom, StaysStopped}
 use Rattle.ep_step.specs.Telling.{told_by}
 use Rattle.ep_world.specs.Stopping.{BreaksOff, Reopens}
 use Rattle.ep_world.proofs.Crashes.{behind-full, breaks-first, breaks-full, breaks-none, breaks-unread, if-ok, not-lacking}
@@ -44,8 +47,8 @@ returns-in-Err-JournalFull-clause-breaks g c = λ alone rs pad message e a.
     let full : c.accept_stopped.result ≡ Err (bad.JournalFull c.in-Err-JournalFull.field-0-0) = cc (c.in-Err-JournalFull.is, c.in-Err-JournalFull.field-0-is) in
     breaks-full g.D.Disk.told g.D.Device.failures g.D.Disk.stops_alone alone c.args.machine.now c.accept_stopped.new.self rs pad c.args.now message c.args.first c.in-Some.session c.in-Some.sent c.in-Ok.change
     c.in-Err-JournalFull.field-0-0 c.args.calls c.args.image e c.in-Some.is c.in-Ok.is c.ops-normal.ensures.normal a (c.accept_stopped.ensures.alone a.state a.kept a.stands)
-    (behind-full full refl (c.accept_stopped.ensures.shut a.state c.in-Err-JournalFull.field-0-0 a.kept a.stands))
-    (λ m. behind-full full refl (c.accept_stopped.ensures.full a.state c.in-Err-JournalFull.field-0-0 a.kept a.stands m))
+    (behind-full (λ b. (next : MachineState) × StaysStopped a.state (Accept c.in-Some.session c.in-Some.sent.base c.in-Ok.change c.args.now) b next × Stands g.D.Disk.told g.D.Device.failures c.accept_stopped.new.self next) c.accept_stopped.result (bad.JournalFull c.in-Err-JournalFull.field-0-0) full (c.accept_stopped.ensures.shut a.state c.in-Err-JournalFull.field-0-0 a.kept a.stands))
+    (λ m. behind-full (λ b. (next : MachineState) × HasNoRoom a.state (Accept c.in-Some.session c.in-Some.sent.base c.in-Ok.change c.args.now) (λ mid. is_kept (gate_behind mid.records) c.args.calls c.args.image) b next × Stands g.D.Disk.told g.D.Device.failures c.accept_stopped.new.self next) c.accept_stopped.result (bad.JournalFull c.in-Err-JournalFull.field-0-0) full (c.accept_stopped.ensures.full a.state c.in-Err-JournalFull.field-0-0 a.kept a.stands m))
 
 pub returns-in_default-clause-counts : goal.returns-in_default-clause-counts
 returns-in_default-clause-counts g c = λ alone rs pad a. breaks-counts alone _ _ c.reopen.result (c.reopen.ensures.counts alone rs pad a)
@@ -63,7 +66,7 @@ pub returns-in-Err-JournalFull-clause-counts : goal.returns-in-Err-JournalFull-c
 returns-in-Err-JournalFull-clause-counts g c = λ alone rs pad a.
     let full : c.accept_stopped.result ≡ Err (bad.JournalFull c.in-Err-JournalFull.field-0-0) = cc (c.in-Err-JournalFull.is, c.in-Err-JournalFull.field-0-is) in
     shut-later g.D.Disk.told g.D.Device.failures g.D.Disk.stops_alone alone rs c.args.machine.now c.accept_stopped.new.self pad (Accept c.in-Some.session c.in-Some.sent.base c.in-Ok.change c.args.now) a
-    c.in-Err-JournalFull.field-0-0 (behind-full full refl (c.accept_stopped.ensures.shut a.state c.in-Err-JournalFull.field-0-0 a.kept a.stands))
+    c.in-Err-JournalFull.field-0-0 (behind-full (λ b. (next : MachineState) × StaysStopped a.state (Accept c.in-Some.session c.in-Some.sent.base c.in-Ok.change c.args.now) b next × Stands g.D.Disk.told g.D.Device.failures c.accept_stopped.new.self next) c.accept_stopped.result (bad.JournalFull c.in-Err-JournalFull.field-0-0) full (c.accept_stopped.ensures.shut a.state c.in-Err-JournalFull.field-0-0 a.kept a.stands))
 
 pub returns-in-Err-clause-counts : goal.returns-in-Err-clause-counts
 returns-in-Err-clause-counts g c = λ alone rs pad a.
