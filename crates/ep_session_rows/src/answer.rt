@@ -1,16 +1,16 @@
 //! The reply to a line.
 
 use crate::asked::{array, numbers, pad, text, whole};
-use crate::called::{MemHouse, Ports};
+use crate::called::Ports;
+use crate::given::{listed, ports};
 use crate::played::Played;
 use crate::standing::put_standing;
 use crate::stop::Stop;
 use crate::told::told;
-use ep_disk_mem::{MemClock, MemDraws, MemFile, MemShelf};
+use ep_disk_mem::{MemClock, MemDraws};
 use ep_groups::DirPort;
-use ep_keep::MapKeeper;
 use ep_link::{Coming, MemLink};
-use ep_outside::{Keeper, Limits, Shelf, Text};
+use ep_outside::{Keeper, Shelf, Text};
 use ep_pad::PadPort;
 use ep_pad_port::{HouseOf, PadCalls};
 use ep_session::serve_session;
@@ -20,81 +20,6 @@ use serde_json::{Map, Value};
 use std::alloc::{AllocError, Global};
 use std::collections::VecDeque;
 use std::sync::Wait;
-
-fn limit(request: &Value, name: &str, usual: u64) -> u64 {
-    match request.get("limits") {
-        Some(limits) => match limits.get(name) {
-            Some(limit) => limit.as_u64().unwrap_or(usual),
-            None => usual,
-        },
-        None => usual,
-    }
-}
-
-fn limits(request: &Value) -> Limits {
-    Limits {
-        live: limit(request, "live", 1024),
-        logins: limit(request, "logins", 1_000_000),
-        units: limit(request, "units", 1_000_000),
-        journal: limit(request, "journal", 1_000_000_000),
-        openings: 0,
-        pads: limit(request, "pads", 1024),
-    }
-}
-
-fn nibble(byte: u8) -> Result<u8, Stop>
-    ensures { IfOk result (λ n. n < 16) }
-{
-    match byte {
-        b'0'..=b'9' => Ok(byte - b'0'),
-        b'a'..=b'f' => Ok(byte - b'a' + 10),
-        _ => Err(Stop::Wrong),
-    }
-}
-
-fn bytes(alloc: Global, hex: &str) -> Result<Vec<u8>, Stop> {
-    let mut bytes = Vec::new(alloc);
-    let mut high = None;
-    for digit in hex.as_bytes() {
-        let digit = nibble(*digit)?;
-        match high {
-            None => high = Some(digit),
-            Some(first) => {
-                bytes.push(first % 16 * 16 + digit)?;
-                high = None;
-            }
-        }
-    }
-    Ok(bytes)
-}
-
-fn file(alloc: Global, name: &str, hex: &Value) -> Result<MemFile, Stop> {
-    let hex = hex.as_str().ok_or(Stop::Wrong)?;
-    let name = pad(alloc, name)?;
-    let bytes = bytes(alloc, hex)?;
-    let fails = Vec::new(alloc);
-    Ok(MemFile { name, bytes, fails })
-}
-
-fn files(alloc: Global, request: &Value) -> Result<Vec<MemFile>, Stop> {
-    let mut files = Vec::new(alloc);
-    let Some(named) = request.get("files") else {
-        return Ok(files);
-    };
-    for (name, hex) in named.as_object().ok_or(Stop::Wrong)? {
-        files.push(file(alloc, name.as_str(), hex)?)?;
-    }
-    Ok(files)
-}
-
-fn ports(alloc: Global, request: &Value) -> Result<Ports, Stop> {
-    let shelf = MemShelf::new(alloc, files(alloc, request)?, Vec::new(alloc))?;
-    let keeper = MapKeeper::new(alloc, Vec::new(alloc));
-    Ok(Ports {
-        alloc,
-        house: MemHouse::open(alloc, shelf, keeper, limits(request))?,
-    })
-}
 
 fn coming(alloc: Global, step: &Value) -> Result<Coming, Stop> {
     if step.get("message").is_some() {
@@ -108,14 +33,6 @@ fn coming(alloc: Global, step: &Value) -> Result<Coming, Stop> {
         Ok(Coming::Closed)
     } else {
         Err(Stop::Wrong)
-    }
-}
-
-/// The calls of the link that fail, by their numbers.
-fn fails(alloc: Global, request: &Value) -> Result<Vec<u64>, Stop> {
-    match request.get("fails") {
-        Some(_) => numbers(alloc, array(request, "fails")?),
-        None => Ok(Vec::new(alloc)),
     }
 }
 
@@ -171,7 +88,7 @@ fn put_standing_at<R: Wait, H: Shelf + Drop, P: PadCalls<H::D>, K: Keeper + Drop
 
 fn play<R: Wait>(rt: &R, ports: &Ports, request: &Value) -> Result<Map<String, Value>, Stop> {
     let steps = array(request, "link")?;
-    let fails = fails(ports.alloc, request)?;
+    let fails = listed(ports.alloc, request, "fails")?;
     let receives = receives(ports.alloc, steps)?;
     let mut link = Played {
         link: MemLink::new(ports.alloc, receives, fails),
@@ -234,5 +151,3 @@ pub fn answer<R: Wait>(rt: &R, alloc: Global, line: &str) -> Result<String, Allo
         Err(Stop::NoMemory) => Err(AllocError),
     }
 }
-
-ghost use Rattle.std.specs.Prelude.{◌<◌, IfOk};
