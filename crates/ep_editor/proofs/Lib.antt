@@ -1,0 +1,4 @@
+pub mod Fitting
+pub mod Lifting
+pub mod Resuming
+pub mod Rules

@@ -1,0 +1,110 @@
+-- What is heard with the answer to the message that resumes may be heard first.
+use Rattle.std.proofs.Common.{◌≡◌, ℕ, ◌==◌, nat_lt, Bool, true, false, not, ◌&&◌, if◌then◌else◌, Option, Some, None, refl, sym, ap, ◌∙◌}
+use Rattle.ep_units.specs.Text.{Text}
+use Rattle.ep_units.specs.declared.session.Session.{Session}
+use Rattle.ep_attr.proofs.SameMap.{second_true}
+use Rattle.ep_cs.specs.Change.{Change}
+use Rattle.ep_cs.specs.Edit.{Edit}
+use Rattle.ep_cs.specs.Fits.{is_identity}
+use Rattle.ep_history.specs.Kept.{KeptClient, is_kept_elsewhere, is_kept_own, kept_dropped, kept_nop, kept_other, kept_own, kept_resumed, kept_resumes}
+use Rattle.ep_client.specs.Hearing.{kept_hears, told_of, view_change}
+use Rattle.ep_client.specs.Refusals.{hear_fault}
+use Rattle.ep_client.specs.declared.bad.ClientBad.{ClientBad}
+use Rattle.ep_client.specs.declared.heard.Heard.TheVariants.{Rev}
+use Rattle.ep_client.specs.declared.heard.Told.{Told}
+use Rattle.ep_client.specs.declared.heard.Told.TheVariants as told
+use Rattle.ep_hearing.specs.Meaning.{heard_of}
+use Rattle.ep_hearing.specs.declared.meaning.Back.{Back}
+use Rattle.ep_hearing.specs.declared.meaning.News.{News}
+use Rattle.ep_editor.specs.Comes.{said}
+use Rattle.ep_editor.specs.Inside.{comes_back, hears_if, hears_news, hears_unless, is_due, resumed, resumed_with, told_reply, with_client}
+use Rattle.ep_editor.specs.Replies.{Reply, Nothing, Refuses, refuses}
+use Rattle.ep_editor.specs.declared.bad.EditorBad.{EditorBad}
+use Rattle.ep_editor.specs.declared.bad.EditorBad.TheVariants as bad
+use Rattle.ep_editor.specs.declared.editor.Said.{Said}
+use Rattle.ep_editor.specs.declared.editor.Said.TheVariants as says
+use Rattle.ep_editor.specs.declared.entered.Entered.{Entered}
+
+-- nothing is dropped while there is something to hear
+pub resumes-early : (session : Session) (head : ℕ) (k : KeptClient) → nat_lt k.rev head ≡ true → kept_resumes session head k ≡ kept_resumed session head k
+resumes-early session head k h =
+    ap (λ t. if not t && (is_kept_elsewhere session k.sent_in && is_identity k.sent) then kept_nop (kept_resumed session head k) else kept_resumed session head k) h
+
+-- who isn't connected drops nothing
+off-stays : (k : KeptClient) → k.connected ≡ false → kept_dropped k ≡ k
+off-stays k h = ap (λ t. if t && (not (nat_lt k.rev k.told) && (is_kept_elsewhere k.session k.sent_in && is_identity k.sent)) then kept_nop k else k) h
+
+-- a client without a submission drops none
+none-stays : (session : Session) (head : ℕ) (k : KeptClient) → k.sent_in ≡ None → kept_dropped (kept_resumed session head k) ≡ kept_resumed session head k
+none-stays session head k h =
+    ap (λ s. if not (nat_lt k.rev head) && (is_kept_elsewhere session s && is_identity k.sent) then kept_nop (kept_resumed session head k) else kept_resumed session head k) h
+    ∙ go (nat_lt k.rev head)
+  where
+    go : (t : Bool) → (if not t && (false && is_identity k.sent) then kept_nop (kept_resumed session head k) else kept_resumed session head k) ≡ kept_resumed session head k
+    go true = refl
+    go false = refl
+
+-- both ways lead to the same
+either-way : (rev : ℕ) (change : Change) (session at : Session) (head : ℕ) (k : KeptClient) → k.connected ≡ false
+    → kept_resumes at head (kept_hears (Rev rev change session) k) ≡ kept_hears (Rev rev change session) (kept_resumed at head k)
+either-way rev change session at head k off = go (is_kept_own session k.sent_in)
+  where
+    go : (t : Bool) → kept_resumes at head (if t then kept_own k else kept_dropped (kept_other change.edit k))
+        ≡ (if t then kept_own (kept_resumed at head k) else kept_dropped (kept_other change.edit (kept_resumed at head k)))
+    go true = none-stays at head (kept_own k) refl
+    go false = ap (kept_resumes at head) (off-stays (kept_other change.edit k) off)
+
+-- behind a reply it is connected again; a refusal leaves it
+abbrev pub again : Back → Reply → Entered → Reply × Entered
+again b (Refuses why) q = (Refuses why, q)
+again b reply q = (reply, comes_back b q)
+
+told-again : (t : Told) (e : Edit) (by : Text) (b : Back) (q : Entered) → again b (told_reply t e by) q ≡ (told_reply t e by, comes_back b q)
+told-again told.Commit e by b q = refl
+told-again told.News e by b q = refl
+
+pub said-again : (x : Said) (b : Back) (q : Entered) → again b (said x) q ≡ (said x, comes_back b q)
+said-again says.Shown b q = refl
+said-again (says.Changed change by) b q = refl
+said-again says.Nothing b q = refl
+said-again (says.Closed word) b q = refl
+
+-- the pad with a client that is connected again
+abbrev up : Entered → KeptClient → Entered
+up p k = record p { client = k; returning = false }
+
+news-first : (b : Back) (n : News) (p : Entered) → p.client.connected ≡ false → nat_lt p.client.rev b.head ≡ true
+    → resumed_with b (Some n) p ≡ again b (hears_news n p).0 (hears_news n p).1
+news-first b n p off early =
+    ap (λ (k : KeptClient). hears_unless (hear_fault (heard_of n) k) n (up p k) p) (resumes-early b.session b.head p.client early) ∙ go (hear_fault (heard_of n) p.client)
+  where
+    go : (o : Option ClientBad) → hears_unless o n (up p (kept_resumed b.session b.head p.client)) p ≡ again b (hears_unless o n p p).0 (hears_unless o n p p).1
+    go None =
+        ap (λ (k : KeptClient). (told_reply (told_of (heard_of n) p.client) (view_change (heard_of n) p.client) n.by, up p k))
+        (sym (either-way n.rev n.change n.session b.session b.head p.client off))
+        ∙ sym (told-again (told_of (heard_of n) p.client) (view_change (heard_of n) p.client) n.by b (with_client p (kept_hears (heard_of n) p.client)))
+    go (Some why) = refl
+
+-- who was told news is connected again
+pub resumed-ok : (b : Back) (n : Option News) (p q : Entered) (x : Said) → p.client.connected ≡ false → is_due b n p ≡ true → hears_if n p ≡ (said x, q)
+    → resumed b n p ≡ (said x, comes_back b q)
+resumed-ok b n p q x off due h = ap (λ t. if t then resumed_with b n p else refuses bad.Turn p) due ∙ go n due h
+  where
+    go : (n : Option News) → is_due b n p ≡ true → hears_if n p ≡ (said x, q) → resumed_with b n p ≡ (said x, comes_back b q)
+    go None due h = (λ i. ((h i).0, comes_back b (h i).1))
+    go (Some n) due h =
+        news-first b n p off (second_true (b.birth == p.birth) _ (second_true p.returning _ due))
+        ∙ (λ i. again b (h i).0 (h i).1) ∙ said-again x b q
+
+-- and who refuses what was told is as before
+pub resumed-err : (b : Back) (n : Option News) (p : Entered) (why : EditorBad) → p.client.connected ≡ false → is_due b n p ≡ true → hears_if n p ≡ (Refuses why, p)
+    → resumed b n p ≡ (Refuses why, p)
+resumed-err b n p why off due h = ap (λ t. if t then resumed_with b n p else refuses bad.Turn p) due ∙ go n due h
+  where
+    no : Nothing ≡ Refuses why → ⊥
+    no e = cc
+
+    go : (n : Option News) → is_due b n p ≡ true → hears_if n p ≡ (Refuses why, p) → resumed_with b n p ≡ (Refuses why, p)
+    go None due h = absurd (no (ap (λ (o : Reply × Entered). o.0) h))
+    go (Some n) due h =
+        news-first b n p off (second_true (b.birth == p.birth) _ (second_true p.returning _ due)) ∙ (λ i. again b (h i).0 (h i).1)

@@ -1,0 +1,52 @@
+-- What a call's answer is of a reply.
+use Rattle.std.specs.Prelude.{◌≡◌, ◌⊎◌, ℕ, List, Option, Some, None, Result, Ok, Err}
+use Rattle.ep_cs.specs.Change.{Change}
+use Rattle.ep_wire_words.specs.Server.{ReadsServer}
+use Rattle.ep_wire_words.specs.declared.bad.WireBad.{WireBad}
+use Rattle.ep_wire_words.specs.declared.client.ClientMsg.{ClientMsg}
+use Rattle.ep_wire_words.specs.declared.server.ServerMsg.{ServerMsg}
+use Rattle.ep_editor.specs.Replies.{Reply, Sends, Shows, Paints, Changes, Closes, Nothing, Refuses}
+use Rattle.ep_editor.specs.Requests.{Hears, answer}
+use Rattle.ep_editor.specs.declared.bad.EditorBad.{EditorBad}
+use Rattle.ep_editor.specs.declared.bad.EditorBad.TheVariants as bad
+use Rattle.ep_editor.specs.declared.editor.Editor.{Editor}
+use Rattle.ep_editor.specs.declared.editor.Said.{Said}
+use Rattle.ep_editor.specs.declared.editor.Said.TheVariants as says
+
+-- the call answered this reply, and left that; an error left what was there, and is the refusal, or want of memory
+abbrev pub Comes : {X S : Type 0} → (X → Reply) → Result X EditorBad → S → S → Reply × S → Type 0
+Comes to (Ok x) old new out = out ≡ (to x, new)
+Comes to (Err why) old new out = (new ≡ old) × ((why ≡ bad.NoMemory) ⊎ (out ≡ (Refuses why, old)))
+
+-- ---- which reply an answer is
+
+abbrev pub nothing : Unit {0} → Reply
+nothing u = Nothing
+
+abbrev pub sends : ClientMsg → Reply
+sends m = Sends m
+
+abbrev pub sends_if : Option ClientMsg → Reply
+sends_if None = Nothing
+sends_if (Some m) = Sends m
+
+abbrev pub changed : Change → Reply
+changed c = Paints c.edit
+
+abbrev pub said : Said → Reply
+said says.Shown = Shows
+said (says.Changed change by) = Changes change.edit by
+said says.Nothing = Nothing
+said (says.Closed word) = Closes word
+
+-- ---- what came
+
+-- the most bytes of a message from a server
+abbrev pub most_bytes : ℕ
+most_bytes = 16777216
+
+-- a text was read as what it is, and that was answered; or memory ran out
+abbrev pub Answers : List ℕ → Result Said EditorBad → Editor → Editor → Type 0
+Answers text r old new =
+    ((read : Result ServerMsg WireBad) × ReadsServer text most_bytes read × Comes said r old new (answer (Hears read) old))
+    ⊎ ((r ≡ Err bad.NoMemory) × (new ≡ old))

@@ -1,0 +1,6 @@
+pub mod Bads
+pub mod Replies
+pub mod Inside
+pub mod Requests
+pub mod Comes
+pub mod Rules

@@ -1,0 +1,385 @@
+//! An editor inside of a pad.
+
+ghost use Rattle.std.specs.Prelude.{◌≡◌, ◌+◌, ◌∷◌, [], true, false, codes, length, IfOk, OnOk, OnErr};
+ghost use Rattle.ep_units.specs.Text.{is_well_formed};
+ghost use Rattle.ep_attr.specs.AttrMap.{of_pairs};
+ghost use Rattle.ep_history.specs.Kept.{kept_edited};
+ghost use Rattle.ep_invert.specs.Paint.{paint};
+ghost use Rattle.ep_invert.specs.Refusal.{refusal, splice_bad};
+ghost use Rattle.ep_wire_words.specs.declared.client.ClientMsg.TheVariants as msgs;
+ghost use Rattle.ep_editor.specs.Comes.{Comes, changed, nothing, said, sends, sends_if};
+ghost use Rattle.ep_editor.specs.Inside.{closes, cut_off, edited, formatted, hears, hears_back, hears_if, hears_more, hears_news, hears_now, hears_own, inside_state, is_busy_inside, is_due, is_head, is_long, loses, own_map, put_by, putting, resumed, resume_of, returns, submitted};
+
+use crate::bad::EditorBad;
+use crate::editor::{Said, State, Wanted};
+use crate::ready::ready;
+use ep_apply::Doc;
+use ep_attr::{Attr, AttrMap};
+use ep_client::{Client, Heard, Submission, Told};
+use ep_cs::{Change, MOST_UNITS};
+use ep_hearing::{Back, Meaning, News};
+use ep_invert::{SpliceBad, paint, splice};
+use ep_units::{NoMemory, Units};
+use ep_wire_words::{ClientMsg, Resume, Word};
+use std::alloc::Global;
+
+/// The key of an author's attribute.
+const AUTHOR: [u16; 6] = [97, 117, 116, 104, 111, 114];
+
+/// A pad as an editor has it.
+#[derive(Drop)]
+pub struct Entered {
+    pub wanted: Wanted,
+    /// Who the client is.
+    pub author: Units,
+    pub read_only: bool,
+    pub birth: u64,
+    pub client: Client,
+    /// The message that resumes was sent, and its answer is awaited.
+    pub returning: bool,
+}
+
+impl Entered {
+    pub(crate) fn state(&self) -> State
+        ensures { result ≡ inside_state self.now }
+    {
+        let (waiting, unsent) = self.client.pending();
+        State {
+            rev: self.client.rev(),
+            waiting,
+            unsent,
+            connected: self.client.is_connected(),
+        }
+    }
+
+    /// Whether it is connected, or about to be.
+    pub(crate) fn is_busy(&self) -> bool
+        ensures { result ≡ is_busy_inside self.now }
+    {
+        self.returning || self.client.is_connected()
+    }
+
+    /// The attributes of what the author puts: the author's own counts last.
+    fn own_map(&self, alloc: Global, with: &AttrMap) -> Result<AttrMap, NoMemory>
+        ensures { IfOk result (λ m. m ≡ own_map self.now.author with.now) }
+    {
+        let own = own_pair(alloc, &self.author)?;
+        with.compose_change(alloc, &own)
+    }
+
+    /// The change of the view that puts a text in the place of so many units.
+    fn spliced(
+        &self,
+        alloc: Global,
+        at: u32,
+        drop: u32,
+        put: &Units,
+        with: &AttrMap,
+    ) -> Result<Change, SpliceBad>
+        requires text { is_well_formed put.now ≡ true }
+        requires short { is_long self.now.client.view drop put.now ≡ false }
+        ensures change { IfOk result (λ c. c.edit ≡ put_by at drop put.now with.now self.now) }
+        ensures refused { refusal result ≡ splice_bad (put_by at drop put.now with.now self.now) (at + drop) self.now.client.view }
+    {
+        let attrs = self.own_map(alloc, with)?;
+        splice(alloc, self.client.view(), at, drop, put, &attrs)
+    }
+
+    /// The change of the view that sets attributes on so many units.
+    fn painted(
+        &self,
+        alloc: Global,
+        at: u32,
+        count: u32,
+        attrs: &AttrMap,
+    ) -> Result<Change, SpliceBad>
+        ensures change { IfOk result (λ c. c.edit ≡ paint (length self.now.client.view) at count attrs.now) }
+        ensures refused { refusal result ≡ splice_bad (paint (length self.now.client.view) at count attrs.now) (at + count) self.now.client.view }
+    {
+        paint(alloc, self.client.view(), at, count, attrs)
+    }
+
+    /// The change of the view that puts a text there is made.
+    fn put(
+        &mut self,
+        alloc: Global,
+        at: u32,
+        drop: u32,
+        put: &Units,
+        with: &AttrMap,
+    ) -> Result<(), EditorBad>
+        requires text { is_well_formed put.now ≡ true }
+        requires short { is_long self.old.client.view drop put.now ≡ false }
+        ensures { Comes nothing result self.old self.new (putting at drop put.now with.now self.old) }
+    {
+        let change = self.spliced(alloc, at, drop, put, with)?;
+        make_edit(alloc, &mut self.client, &change)?;
+        Ok(())
+    }
+
+    pub(crate) fn edit(
+        &mut self,
+        alloc: Global,
+        at: u32,
+        drop: u32,
+        put: &Units,
+        with: &AttrMap,
+    ) -> Result<(), EditorBad>
+        requires { is_well_formed put.now ≡ true }
+        ensures { Comes nothing result self.old self.new (edited at drop put.now with.now self.old) }
+    {
+        if self.read_only {
+            return Err(EditorBad::ReadOnly);
+        }
+        if is_long(self.client.view(), drop, put) {
+            return Err(EditorBad::Long);
+        }
+        self.put(alloc, at, drop, put, with)
+    }
+
+    pub(crate) fn format(
+        &mut self,
+        alloc: Global,
+        at: u32,
+        count: u32,
+        attrs: &AttrMap,
+    ) -> Result<Change, EditorBad>
+        ensures { Comes changed result self.old self.new (formatted at count attrs.now self.old) }
+    {
+        if self.read_only {
+            return Err(EditorBad::ReadOnly);
+        }
+        let change = self.painted(alloc, at, count, attrs)?;
+        make_edit(alloc, &mut self.client, &change)?;
+        Ok(change)
+    }
+
+    pub(crate) fn submit(&mut self, alloc: Global) -> Result<Option<ClientMsg>, EditorBad>
+        ensures { Comes sends_if result self.old self.new (submitted self.old) }
+    {
+        let sent = self.client.submit(alloc)?;
+        Ok(sent.map(changes))
+    }
+
+    pub(crate) fn lost(&mut self) -> Result<(), EditorBad>
+        ensures { Comes nothing result self.old self.new (loses self.old) }
+    {
+        if !self.is_busy() {
+            return Err(EditorBad::Turn);
+        }
+        self.cut_off();
+        Ok(())
+    }
+
+    /// There is no connection.
+    fn cut_off(&mut self)
+        ensures { self.new ≡ cut_off self.old }
+    {
+        self.client.lost();
+        self.returning = false;
+    }
+
+    pub(crate) fn come_back(&mut self, alloc: Global) -> Result<ClientMsg, EditorBad>
+        ensures { Comes sends result self.old self.new (returns self.old) }
+    {
+        if self.is_busy() {
+            return Err(EditorBad::Turn);
+        }
+        let resume = self.resume(alloc)?;
+        let first = ready(alloc, &self.wanted, Some(resume))?;
+        self.returning = true;
+        Ok(first)
+    }
+
+    /// What it comes back with.
+    fn resume(&self, alloc: Global) -> Result<Resume, NoMemory>
+        ensures { IfOk result (λ r. r ≡ resume_of self.now) }
+    {
+        Ok(Resume {
+            rev: self.client.rev(),
+            birth: Some(self.birth),
+            author: Some(self.author.copy(alloc)?),
+        })
+    }
+
+    pub(crate) fn hear(&mut self, alloc: Global, meaning: Meaning) -> Result<Said, EditorBad>
+        ensures { Comes said result self.old self.new (hears meaning self.old) }
+    {
+        match meaning {
+            Meaning::Own(heard) => self.hear_own(alloc, &heard),
+            Meaning::News(news) => self.hear_now(alloc, news),
+            Meaning::Back(back, news) => self.hear_back(alloc, back, news),
+            Meaning::Closing(word) => self.close(word),
+            Meaning::Welcome(_) | Meaning::Slid(_) => Err(EditorBad::Turn),
+        }
+    }
+
+    /// It hears of its own submission.
+    fn hear_own(&mut self, alloc: Global, heard: &Heard) -> Result<Said, EditorBad>
+        ensures { Comes said result self.old self.new (hears_own heard.now self.old) }
+    {
+        if !self.client.is_connected() {
+            return Err(EditorBad::Turn);
+        }
+        self.client.hear(alloc, heard)?;
+        Ok(Said::Nothing)
+    }
+
+    /// It hears the next revision, if it is connected.
+    fn hear_now(&mut self, alloc: Global, news: News) -> Result<Said, EditorBad>
+        ensures { Comes said result self.old self.new (hears_now news self.old) }
+    {
+        if !self.client.is_connected() {
+            return Err(EditorBad::Turn);
+        }
+        self.hear_news(alloc, news)
+    }
+
+    /// It hears the next revision.
+    fn hear_news(&mut self, alloc: Global, news: News) -> Result<Said, EditorBad>
+        ensures { Comes said result self.old self.new (hears_news news self.old) }
+    {
+        let News {
+            rev,
+            change,
+            session,
+            by,
+        } = news;
+        let heard = Heard::Rev {
+            rev,
+            change,
+            session,
+        };
+        let told = self.client.told_of(&heard);
+        let change = self.client.hear_change(alloc, &heard)?;
+        Ok(match told {
+            Told::Commit => Said::Nothing,
+            Told::News => Said::Changed { change, by },
+        })
+    }
+
+    /// The server tells what was missed.
+    fn hear_back(
+        &mut self,
+        alloc: Global,
+        back: Back,
+        news: Option<News>,
+    ) -> Result<Said, EditorBad>
+        ensures { Comes said result self.old self.new (hears_back back news self.old) }
+    {
+        if self.client.is_connected() {
+            return self.hear_more(alloc, back, news);
+        }
+        self.resumed(alloc, back, news)
+    }
+
+    /// More of what was missed.
+    fn hear_more(
+        &mut self,
+        alloc: Global,
+        back: Back,
+        news: Option<News>,
+    ) -> Result<Said, EditorBad>
+        ensures { Comes said result self.old self.new (hears_more back news self.old) }
+    {
+        match news {
+            Some(news) if back.birth == self.birth => self.hear_news(alloc, news),
+            _ => Err(EditorBad::Turn),
+        }
+    }
+
+    /// Whether a message is the answer to the one that resumes.
+    fn is_due(&self, back: Back, news: &Option<News>) -> bool
+        ensures { result ≡ is_due back news.now self.now }
+    {
+        self.returning && back.birth == self.birth && is_head(self.client.rev(), back.head, news)
+    }
+
+    /// The answer to the message that resumes: it is connected again. What is heard with it comes first here: that leads to
+    /// the same, and can be refused.
+    fn resumed(&mut self, alloc: Global, back: Back, news: Option<News>) -> Result<Said, EditorBad>
+        requires { self.old.client.connected ≡ false }
+        ensures { Comes said result self.old self.new (resumed back news self.old) }
+    {
+        if !self.is_due(back, &news) {
+            return Err(EditorBad::Turn);
+        }
+        let said = self.hear_if(alloc, news)?;
+        self.client.resume(back.session, back.head);
+        self.returning = false;
+        Ok(said)
+    }
+
+    fn hear_if(&mut self, alloc: Global, news: Option<News>) -> Result<Said, EditorBad>
+        ensures { Comes said result self.old self.new (hears_if news self.old) }
+    {
+        match news {
+            Some(news) => self.hear_news(alloc, news),
+            None => Ok(Said::Nothing),
+        }
+    }
+
+    /// The server closed.
+    fn close(&mut self, word: Word) -> Result<Said, EditorBad>
+        ensures { Comes said result self.old self.new (closes word self.old) }
+    {
+        if !self.is_busy() {
+            return Err(EditorBad::Turn);
+        }
+        self.cut_off();
+        Ok(Said::Closed(word))
+    }
+}
+
+/// Whether the head is the revision that was heard last, or, where there is news, above it.
+fn is_head(heard: u64, head: u64, news: &Option<News>) -> bool
+    ensures { result ≡ is_head heard head news.now }
+{
+    match news {
+        Some(_) => heard < head,
+        None => heard == head,
+    }
+}
+
+/// The map of an author's attribute.
+fn own_pair(alloc: Global, author: &Units) -> Result<AttrMap, NoMemory>
+    ensures { IfOk result (λ m. m ≡ of_pairs ((codes "author", author.now) ∷ [])) }
+{
+    AttrMap::read(
+        alloc,
+        &[Attr {
+            key: Units::from_slice(alloc, &AUTHOR)?,
+            value: author.copy(alloc)?,
+        }],
+    )
+}
+
+/// Whether a document would have 2^32 units or more with a text in the place of so many.
+fn is_long(doc: &Doc, drop: u32, put: &Units) -> bool
+    ensures { result ≡ is_long doc.now drop put.now }
+{
+    let rest = doc.len().saturating_sub(drop);
+    put.len() > (MOST_UNITS - rest) as usize
+}
+
+/// The client makes an edit that fits its view. By the rules it refuses none; if it did, that would be answered as want of
+/// memory.
+fn make_edit(alloc: Global, client: &mut Client, change: &Change) -> Result<(), NoMemory>
+    ensures made { OnOk result (client.new ≡ kept_edited change.now.edit client.old) }
+    ensures kept { OnErr result (client.new ≡ client.old) }
+{
+    match client.edit(alloc, change) {
+        Ok(()) => Ok(()),
+        Err(_) => Err(NoMemory),
+    }
+}
+
+/// The message of what a client submitted.
+fn changes(sent: Submission) -> ClientMsg
+    ensures { result ≡ msgs.Edit sent.base sent.change }
+{
+    ClientMsg::Edit {
+        base: sent.base,
+        change: sent.change,
+    }
+}
