@@ -59,7 +59,7 @@ class Editor:
     def __init__(self, command, url, token):
         self.child = subprocess.Popen([command], stdin=subprocess.PIPE, stdout=subprocess.PIPE)
         self.url, self.token = url, token
-        self.text, self.state, self.link, self.inside = None, {"connected": False}, None, False
+        self.text, self.state, self.link = None, {"connected": False}, None
 
     def ask(self, **request):
         self.child.stdin.write(json.dumps(request).encode() + b"\n")
@@ -81,9 +81,12 @@ class Editor:
     async def hear(self, message):
         reply = self.ask(do="heard", message=message)
         if "text" in reply:
-            self.text, self.inside = reply["text"], True
+            self.text = reply["text"]
         if "change" in reply:
             self.text = changed(self.text, reply["change"])
+        if "closed" in reply:
+            print("closed:", reply["closed"])
+            self.link = None
         if self.state["connected"]:
             await self.send_due()
 
@@ -92,9 +95,9 @@ class Editor:
         while True:
             try:
                 async with websockets.connect(self.url, max_size=None) as link:
-                    reply = self.ask(do="return") if self.inside else self.ask(do="enter", pad="p", token=self.token)
-                    await link.send(reply["send"])
+                    reply = self.ask(do="enter", pad="p", token=self.token) if self.text is None else self.ask(do="return")
                     self.link = link
+                    await link.send(reply["send"])
                     async for message in link:
                         await self.hear(message)
             except (OSError, websockets.exceptions.WebSocketException):

@@ -1,5 +1,5 @@
 -- What is heard with the answer to the message that resumes may be heard first.
-use Rattle.std.proofs.Common.{◌≡◌, ℕ, ◌==◌, nat_lt, Bool, true, false, not, ◌&&◌, if◌then◌else◌, Option, Some, None, refl, sym, ap, ◌∙◌}
+use Rattle.std.proofs.Common.{◌≡◌, inl, inr, Err, ℕ, ◌==◌, nat_lt, Bool, true, false, not, ◌&&◌, if◌then◌else◌, Option, Some, None, refl, sym, ap, ◌∙◌}
 use Rattle.ep_units.specs.Text.{Text}
 use Rattle.ep_units.specs.declared.session.Session.{Session}
 use Rattle.ep_attr.proofs.SameMap.{second_true}
@@ -16,11 +16,10 @@ use Rattle.ep_client.specs.declared.heard.Told.TheVariants as told
 use Rattle.ep_hearing.specs.Meaning.{heard_of}
 use Rattle.ep_hearing.specs.declared.meaning.Back.{Back}
 use Rattle.ep_hearing.specs.declared.meaning.News.{News}
-use Rattle.ep_editor.specs.Comes.{said}
-use Rattle.ep_editor.specs.Inside.{comes_back, hears_if, hears_news, hears_unless, is_due, resumed, resumed_with, told_reply, with_client}
-use Rattle.ep_editor.specs.Replies.{Reply, Nothing, Refuses, refuses}
+use Rattle.ep_editor.specs.Comes.{Comes, said}
+use Rattle.ep_editor.specs.Inside.{comes_back, hears_if, hears_news, hears_unless, is_due, resumed_with, told_reply, with_client}
+use Rattle.ep_editor.specs.Replies.{Reply, Nothing, Refuses}
 use Rattle.ep_editor.specs.declared.bad.EditorBad.{EditorBad}
-use Rattle.ep_editor.specs.declared.bad.EditorBad.TheVariants as bad
 use Rattle.ep_editor.specs.declared.editor.Said.{Said}
 use Rattle.ep_editor.specs.declared.editor.Said.TheVariants as says
 use Rattle.ep_editor.specs.declared.entered.Entered.{Entered}
@@ -87,24 +86,21 @@ news-first b n p off early =
 
 -- who was told news is connected again
 pub resumed-ok : (b : Back) (n : Option News) (p q : Entered) (x : Said) → p.client.connected ≡ false → is_due b n p ≡ true → hears_if n p ≡ (said x, q)
-    → resumed b n p ≡ (said x, comes_back b q)
-resumed-ok b n p q x off due h = ap (λ t. if t then resumed_with b n p else refuses bad.Turn p) due ∙ go n due h
-  where
-    go : (n : Option News) → is_due b n p ≡ true → hears_if n p ≡ (said x, q) → resumed_with b n p ≡ (said x, comes_back b q)
-    go None due h = (λ i. ((h i).0, comes_back b (h i).1))
-    go (Some n) due h =
-        news-first b n p off (second_true (b.birth == p.birth) _ (second_true p.returning _ due))
-        ∙ (λ i. again b (h i).0 (h i).1) ∙ said-again x b q
+    → resumed_with b n p ≡ (said x, comes_back b q)
+resumed-ok b None p q x off due h = λ i. ((h i).0, comes_back b (h i).1)
+resumed-ok b (Some n) p q x off due h =
+    news-first b n p off (second_true (b.birth == p.birth) _ (second_true p.returning _ due)) ∙ (λ i. again b (h i).0 (h i).1) ∙ said-again x b q
 
 -- and who refuses what was told is as before
-pub resumed-err : (b : Back) (n : Option News) (p : Entered) (why : EditorBad) → p.client.connected ≡ false → is_due b n p ≡ true → hears_if n p ≡ (Refuses why, p)
-    → resumed b n p ≡ (Refuses why, p)
-resumed-err b n p why off due h = ap (λ t. if t then resumed_with b n p else refuses bad.Turn p) due ∙ go n due h
+resumed-err : (b : Back) (n : Option News) (p : Entered) (why : EditorBad) → p.client.connected ≡ false → is_due b n p ≡ true → hears_if n p ≡ (Refuses why, p)
+    → resumed_with b n p ≡ (Refuses why, p)
+resumed-err b None p why off due h = absurd (no (ap (λ (o : Reply × Entered). o.0) h))
   where
     no : Nothing ≡ Refuses why → ⊥
     no e = cc
+resumed-err b (Some n) p why off due h = news-first b n p off (second_true (b.birth == p.birth) _ (second_true p.returning _ due)) ∙ (λ i. again b (h i).0 (h i).1)
 
-    go : (n : Option News) → is_due b n p ≡ true → hears_if n p ≡ (Refuses why, p) → resumed_with b n p ≡ (Refuses why, p)
-    go None due h = absurd (no (ap (λ (o : Reply × Entered). o.0) h))
-    go (Some n) due h =
-        news-first b n p off (second_true (b.birth == p.birth) _ (second_true p.returning _ due)) ∙ (λ i. again b (h i).0 (h i).1)
+pub comes-err : (b : Back) (n : Option News) (p q : Entered) (why : EditorBad) → p.client.connected ≡ false → is_due b n p ≡ true
+    → Comes said (Err why) p q (hears_if n p) → Comes said (Err why) p q (resumed_with b n p)
+comes-err b n p q why off due (e, inl m) = (e, inl m)
+comes-err b n p q why off due (e, inr h) = (e, inr (resumed-err b n p why off due h))

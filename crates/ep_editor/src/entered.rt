@@ -8,7 +8,7 @@ ghost use Rattle.ep_invert.specs.Paint.{paint};
 ghost use Rattle.ep_invert.specs.Refusal.{refusal, splice_bad};
 ghost use Rattle.ep_wire_words.specs.declared.client.ClientMsg.TheVariants as msgs;
 ghost use Rattle.ep_editor.specs.Comes.{Comes, changed, nothing, said, sends, sends_if};
-ghost use Rattle.ep_editor.specs.Inside.{closes, cut_off, edited, formatted, hears, hears_back, hears_if, hears_more, hears_news, hears_now, hears_own, inside_state, is_busy_inside, is_due, is_head, is_long, loses, own_map, put_by, putting, resumed, resume_of, returns, submitted};
+ghost use Rattle.ep_editor.specs.Inside.{closes, cut_off, edited, formatted, hears, hears_back, hears_if, hears_more, hears_news, hears_now, hears_own, inside_state, is_busy_inside, is_due, is_head, is_long, loses, own_map, put_edit, putting, resumed, resumed_with, resume_of, returns, submitted};
 
 use crate::bad::EditorBad;
 use crate::editor::{Said, State, Wanted};
@@ -74,15 +74,14 @@ impl Entered {
         at: u32,
         drop: u32,
         put: &Units,
-        with: &AttrMap,
+        attrs: &AttrMap,
     ) -> Result<Change, SpliceBad>
         requires text { is_well_formed put.now ≡ true }
         requires short { is_long self.now.client.view drop put.now ≡ false }
-        ensures change { IfOk result (λ c. c.edit ≡ put_by at drop put.now with.now self.now) }
-        ensures refused { refusal result ≡ splice_bad (put_by at drop put.now with.now self.now) (at + drop) self.now.client.view }
+        ensures change { IfOk result (λ c. c.edit ≡ put_edit at drop put.now attrs.now self.now.client.view) }
+        ensures refused { refusal result ≡ splice_bad (put_edit at drop put.now attrs.now self.now.client.view) (at + drop) self.now.client.view }
     {
-        let attrs = self.own_map(alloc, with)?;
-        splice(alloc, self.client.view(), at, drop, put, &attrs)
+        splice(alloc, self.client.view(), at, drop, put, attrs)
     }
 
     /// The change of the view that sets attributes on so many units.
@@ -112,7 +111,8 @@ impl Entered {
         requires short { is_long self.old.client.view drop put.now ≡ false }
         ensures { Comes nothing result self.old self.new (putting at drop put.now with.now self.old) }
     {
-        let change = self.spliced(alloc, at, drop, put, with)?;
+        let attrs = self.own_map(alloc, with)?;
+        let change = self.spliced(alloc, at, drop, put, &attrs)?;
         make_edit(alloc, &mut self.client, &change)?;
         Ok(())
     }
@@ -295,19 +295,36 @@ impl Entered {
         self.returning && back.birth == self.birth && is_head(self.client.rev(), back.head, news)
     }
 
-    /// The answer to the message that resumes: it is connected again. What is heard with it comes first here: that leads to
-    /// the same, and can be refused.
+    /// The answer to the message that resumes, if it is due.
     fn resumed(&mut self, alloc: Global, back: Back, news: Option<News>) -> Result<Said, EditorBad>
         requires { self.old.client.connected ≡ false }
         ensures { Comes said result self.old self.new (resumed back news self.old) }
     {
-        if !self.is_due(back, &news) {
-            return Err(EditorBad::Turn);
+        if self.is_due(back, &news) {
+            return self.reconnect(alloc, back, news);
         }
-        let said = self.hear_if(alloc, news)?;
-        self.client.resume(back.session, back.head);
-        self.returning = false;
-        Ok(said)
+        Err(EditorBad::Turn)
+    }
+
+    /// It is connected again. What is heard with that comes first here: it leads to the same, and can be refused.
+    fn reconnect(
+        &mut self,
+        alloc: Global,
+        back: Back,
+        news: Option<News>,
+    ) -> Result<Said, EditorBad>
+        requires off { self.old.client.connected ≡ false }
+        requires due { is_due back news self.old ≡ true }
+        ensures { Comes said result self.old self.new (resumed_with back news self.old) }
+    {
+        match self.hear_if(alloc, news) {
+            Ok(said) => {
+                self.client.resume(back.session, back.head);
+                self.returning = false;
+                Ok(said)
+            }
+            Err(bad) => Err(bad),
+        }
     }
 
     fn hear_if(&mut self, alloc: Global, news: Option<News>) -> Result<Said, EditorBad>
