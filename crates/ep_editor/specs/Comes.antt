@@ -1,6 +1,8 @@
 -- What a call's answer is of a reply.
 use Rattle.std.specs.Prelude.{◌≡◌, ◌⊎◌, ℕ, List, Option, Some, None, Result, Ok, Err}
 use Rattle.ep_cs.specs.Change.{Change}
+use Rattle.ep_cs.specs.Doc.{Doc}
+use Rattle.ep_cs.specs.Fits.{Fits}
 use Rattle.ep_wire_words.specs.Server.{ReadsServer}
 use Rattle.ep_wire_words.specs.declared.bad.WireBad.{WireBad}
 use Rattle.ep_wire_words.specs.declared.client.ClientMsg.{ClientMsg}
@@ -10,6 +12,7 @@ use Rattle.ep_editor.specs.Requests.{Hears, answer}
 use Rattle.ep_editor.specs.declared.bad.EditorBad.{EditorBad}
 use Rattle.ep_editor.specs.declared.bad.EditorBad.TheVariants as bad
 use Rattle.ep_editor.specs.declared.editor.Editor.{Editor}
+use Rattle.ep_editor.specs.declared.editor.Editor.TheVariants.{Inside}
 use Rattle.ep_editor.specs.declared.editor.Said.{Said}
 use Rattle.ep_editor.specs.declared.editor.Said.TheVariants as says
 
@@ -50,3 +53,20 @@ abbrev pub Answers : List ℕ → Result Said EditorBad → Editor → Editor �
 Answers text r old new =
     ((read : Result ServerMsg WireBad) × ReadsServer text most_bytes read × Comes said r old new (answer (Hears read) old))
     ⊎ ((r ≡ Err bad.NoMemory) × (new ≡ old))
+
+-- ---- changes that are told
+
+-- a change that is told fits this document
+abbrev pub FitsThat : Said → Doc → Type 0
+FitsThat (says.Changed change by) doc = Fits change doc
+FitsThat x doc = Unit {0}
+
+-- it fits what was shown
+abbrev pub FitsShown : Editor → Said → Type 0
+FitsShown (Inside p) x = FitsThat x p.client.view
+FitsShown s x = Unit {0}
+
+-- the same of a painting
+abbrev pub PaintsShown : Editor → Change → Type 0
+PaintsShown (Inside p) c = Fits c p.client.view
+PaintsShown s c = Unit {0}

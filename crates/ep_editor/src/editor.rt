@@ -1,8 +1,8 @@
 //! The editor, with a call for each request.
 
-ghost use Rattle.std.specs.Prelude.{◌≡◌, Ok};
+ghost use Rattle.std.specs.Prelude.{◌≡◌, IfOk, Ok};
 ghost use Rattle.ep_units.specs.Utf8.{units_of};
-ghost use Rattle.ep_editor.specs.Comes.{Answers, Comes, changed, nothing, said, sends, sends_if};
+ghost use Rattle.ep_editor.specs.Comes.{Answers, Comes, FitsShown, PaintsShown, changed, nothing, said, sends, sends_if};
 ghost use Rattle.ep_editor.specs.Requests.{answer, begun, denied, heard_rev, is_busy, state_of, welcomed};
 ghost use Rattle.ep_editor.specs.Requests.Request.{Edits, Enters, Formats, Hears, Loses, Returns, Submits};
 ghost use Rattle.ep_editor.specs.declared.editor.Editor.TheVariants as editor;
@@ -91,7 +91,9 @@ impl Editor {
 
     /// A message came from the server, which is this text.
     pub fn heard(&mut self, alloc: Global, text: &str) -> Result<Said, EditorBad>
-        ensures { Answers text.now result self.old self.new }
+        ensures replies { Answers text.now result self.old self.new }
+        // A change that is told has the claims of what was shown.
+        ensures fits { IfOk result (FitsShown self.old) }
     {
         let msg = read_server(alloc, text, MOST_BYTES)?;
         self.hear(alloc, msg)
@@ -123,7 +125,8 @@ impl Editor {
         count: u32,
         attrs: &AttrMap,
     ) -> Result<Change, EditorBad>
-        ensures { Comes changed result self.old self.new (answer (Formats at count attrs.now) self.old) }
+        ensures replies { Comes changed result self.old self.new (answer (Formats at count attrs.now) self.old) }
+        ensures fits { IfOk result (PaintsShown self.old) }
     {
         match self {
             Editor::Inside(entered) => entered.format(alloc, at, count, attrs),
@@ -196,7 +199,8 @@ impl Editor {
 
     /// It hears a message.
     fn hear(&mut self, alloc: Global, msg: ServerMsg) -> Result<Said, EditorBad>
-        ensures { Comes said result self.old self.new (answer (Hears (Ok msg)) self.old) }
+        ensures replies { Comes said result self.old self.new (answer (Hears (Ok msg)) self.old) }
+        ensures fits { IfOk result (FitsShown self.old) }
     {
         let meaning = meant(self.heard_rev(), msg);
         if let Editor::Inside(entered) = self {
@@ -207,7 +211,8 @@ impl Editor {
 
     /// It hears the first message.
     fn begin(&mut self, alloc: Global, meaning: Meaning) -> Result<Said, EditorBad>
-        ensures { Comes said result self.old self.new (begun meaning self.old) }
+        ensures replies { Comes said result self.old self.new (begun meaning self.old) }
+        ensures fits { IfOk result (FitsShown self.old) }
     {
         match meaning {
             Meaning::Welcome(welcome) => self.welcome(alloc, welcome),
@@ -220,7 +225,8 @@ impl Editor {
 
     /// The document came.
     fn welcome(&mut self, alloc: Global, welcome: Welcome) -> Result<Said, EditorBad>
-        ensures { Comes said result self.old self.new (welcomed welcome self.old) }
+        ensures replies { Comes said result self.old self.new (welcomed welcome self.old) }
+        ensures fits { IfOk result (FitsShown self.old) }
     {
         let Welcome {
             author,
@@ -252,7 +258,8 @@ impl Editor {
 
     /// The server closed before the document came.
     fn denied(&mut self, word: Word) -> Result<Said, EditorBad>
-        ensures { Comes said result self.old self.new (denied word self.old) }
+        ensures replies { Comes said result self.old self.new (denied word self.old) }
+        ensures fits { IfOk result (FitsShown self.old) }
     {
         if !matches!(self, Editor::Entering(_)) {
             return Err(EditorBad::Turn);

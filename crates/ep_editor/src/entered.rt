@@ -7,7 +7,8 @@ ghost use Rattle.ep_history.specs.Kept.{kept_edited};
 ghost use Rattle.ep_invert.specs.Paint.{paint};
 ghost use Rattle.ep_invert.specs.Refusal.{refusal, splice_bad};
 ghost use Rattle.ep_wire_words.specs.declared.client.ClientMsg.TheVariants as msgs;
-ghost use Rattle.ep_editor.specs.Comes.{Comes, changed, nothing, said, sends, sends_if};
+ghost use Rattle.ep_cs.specs.Fits.{Fits};
+ghost use Rattle.ep_editor.specs.Comes.{Comes, FitsThat, changed, nothing, said, sends, sends_if};
 ghost use Rattle.ep_editor.specs.Inside.{closes, cut_off, edited, formatted, hears, hears_back, hears_if, hears_more, hears_news, hears_now, hears_own, inside_state, is_busy_inside, is_due, is_head, is_long, loses, own_map, put_edit, putting, resumed, resumed_with, resume_of, returns, submitted};
 
 use crate::bad::EditorBad;
@@ -93,6 +94,7 @@ impl Entered {
         attrs: &AttrMap,
     ) -> Result<Change, SpliceBad>
         ensures change { IfOk result (λ c. c.edit ≡ paint (length self.now.client.view) at count attrs.now) }
+        ensures fits { IfOk result (λ c. Fits c self.now.client.view) }
         ensures refused { refusal result ≡ splice_bad (paint (length self.now.client.view) at count attrs.now) (at + count) self.now.client.view }
     {
         paint(alloc, self.client.view(), at, count, attrs)
@@ -144,7 +146,8 @@ impl Entered {
         count: u32,
         attrs: &AttrMap,
     ) -> Result<Change, EditorBad>
-        ensures { Comes changed result self.old self.new (formatted at count attrs.now self.old) }
+        ensures replies { Comes changed result self.old self.new (formatted at count attrs.now self.old) }
+        ensures fits { IfOk result (λ c. Fits c self.old.client.view) }
     {
         if self.read_only {
             return Err(EditorBad::ReadOnly);
@@ -203,7 +206,8 @@ impl Entered {
     }
 
     pub(crate) fn hear(&mut self, alloc: Global, meaning: Meaning) -> Result<Said, EditorBad>
-        ensures { Comes said result self.old self.new (hears meaning self.old) }
+        ensures replies { Comes said result self.old self.new (hears meaning self.old) }
+        ensures fits { IfOk result (λ x. FitsThat x self.old.client.view) }
     {
         match meaning {
             Meaning::Own(heard) => self.hear_own(alloc, &heard),
@@ -216,7 +220,8 @@ impl Entered {
 
     /// It hears of its own submission.
     fn hear_own(&mut self, alloc: Global, heard: &Heard) -> Result<Said, EditorBad>
-        ensures { Comes said result self.old self.new (hears_own heard.now self.old) }
+        ensures replies { Comes said result self.old self.new (hears_own heard.now self.old) }
+        ensures fits { IfOk result (λ x. FitsThat x self.old.client.view) }
     {
         if !self.client.is_connected() {
             return Err(EditorBad::Turn);
@@ -227,7 +232,8 @@ impl Entered {
 
     /// It hears the next revision, if it is connected.
     fn hear_now(&mut self, alloc: Global, news: News) -> Result<Said, EditorBad>
-        ensures { Comes said result self.old self.new (hears_now news self.old) }
+        ensures replies { Comes said result self.old self.new (hears_now news self.old) }
+        ensures fits { IfOk result (λ x. FitsThat x self.old.client.view) }
     {
         if !self.client.is_connected() {
             return Err(EditorBad::Turn);
@@ -237,7 +243,8 @@ impl Entered {
 
     /// It hears the next revision.
     fn hear_news(&mut self, alloc: Global, news: News) -> Result<Said, EditorBad>
-        ensures { Comes said result self.old self.new (hears_news news self.old) }
+        ensures replies { Comes said result self.old self.new (hears_news news self.old) }
+        ensures fits { IfOk result (λ x. FitsThat x self.old.client.view) }
     {
         let News {
             rev,
@@ -265,7 +272,8 @@ impl Entered {
         back: Back,
         news: Option<News>,
     ) -> Result<Said, EditorBad>
-        ensures { Comes said result self.old self.new (hears_back back news self.old) }
+        ensures replies { Comes said result self.old self.new (hears_back back news self.old) }
+        ensures fits { IfOk result (λ x. FitsThat x self.old.client.view) }
     {
         if self.client.is_connected() {
             return self.hear_more(alloc, back, news);
@@ -280,7 +288,8 @@ impl Entered {
         back: Back,
         news: Option<News>,
     ) -> Result<Said, EditorBad>
-        ensures { Comes said result self.old self.new (hears_more back news self.old) }
+        ensures replies { Comes said result self.old self.new (hears_more back news self.old) }
+        ensures fits { IfOk result (λ x. FitsThat x self.old.client.view) }
     {
         match news {
             Some(news) if back.birth == self.birth => self.hear_news(alloc, news),
@@ -298,7 +307,8 @@ impl Entered {
     /// The answer to the message that resumes, if it is due.
     fn resumed(&mut self, alloc: Global, back: Back, news: Option<News>) -> Result<Said, EditorBad>
         requires { self.old.client.connected ≡ false }
-        ensures { Comes said result self.old self.new (resumed back news self.old) }
+        ensures replies { Comes said result self.old self.new (resumed back news self.old) }
+        ensures fits { IfOk result (λ x. FitsThat x self.old.client.view) }
     {
         if self.is_due(back, &news) {
             return self.reconnect(alloc, back, news);
@@ -315,7 +325,8 @@ impl Entered {
     ) -> Result<Said, EditorBad>
         requires off { self.old.client.connected ≡ false }
         requires due { is_due back news self.old ≡ true }
-        ensures { Comes said result self.old self.new (resumed_with back news self.old) }
+        ensures replies { Comes said result self.old self.new (resumed_with back news self.old) }
+        ensures fits { IfOk result (λ x. FitsThat x self.old.client.view) }
     {
         match self.hear_if(alloc, news) {
             Ok(said) => {
@@ -328,7 +339,8 @@ impl Entered {
     }
 
     fn hear_if(&mut self, alloc: Global, news: Option<News>) -> Result<Said, EditorBad>
-        ensures { Comes said result self.old self.new (hears_if news self.old) }
+        ensures replies { Comes said result self.old self.new (hears_if news self.old) }
+        ensures fits { IfOk result (λ x. FitsThat x self.old.client.view) }
     {
         match news {
             Some(news) => self.hear_news(alloc, news),
@@ -338,7 +350,8 @@ impl Entered {
 
     /// The server closed.
     fn close(&mut self, word: Word) -> Result<Said, EditorBad>
-        ensures { Comes said result self.old self.new (closes word self.old) }
+        ensures replies { Comes said result self.old self.new (closes word self.old) }
+        ensures fits { IfOk result (λ x. FitsThat x self.old.client.view) }
     {
         if !self.is_busy() {
             return Err(EditorBad::Turn);
