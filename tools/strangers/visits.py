@@ -42,8 +42,14 @@ def start(command, folder):
 def masked(text):
     """The frame of a text that a client sends."""
     body, mask = text.encode(), os.urandom(4)
-    head = bytes([0x81, 0x80 | len(body)]) if len(body) < 126 else struct.pack("!BBH", 0x81, 0xFE, len(body))
-    return head + mask + bytes(byte ^ mask[at % 4] for at, byte in enumerate(body))
+    if len(body) < 126:
+        head = bytes([0x81, 0x80 | len(body)])
+    elif len(body) < 65536:
+        head = struct.pack("!BBH", 0x81, 0xFE, len(body))
+    else:
+        head = struct.pack("!BBQ", 0x81, 0xFF, len(body))
+    over = int.from_bytes((mask * (len(body) // 4 + 1))[: len(body)], "little") ^ int.from_bytes(body, "little")
+    return head + mask + over.to_bytes(len(body), "little")
 
 
 class Visitor:

@@ -12,6 +12,7 @@ mod pads;
 mod revising;
 mod two;
 mod typing;
+mod undoing;
 mod work;
 
 use anyhow::{Context, Result, anyhow};
@@ -19,7 +20,7 @@ use std::env;
 use work::Work;
 
 const USAGE: &str =
-    "usage: ep_bench read|print|pool|pool-collide|fits|apply|apply-runs|compose|follow|rebase|slide|hear|encode|decode|read-changes|print-news|print-vars UNITS COUNT";
+    "usage: ep_bench read|print|pool|pool-collide|fits|apply|apply-runs|compose|follow|rebase|slide|hear|turn|undo|encode|decode|read-changes|print-news|print-vars UNITS COUNT";
 
 fn checksum(rt: &HostRuntime) -> Result<u64> {
     let mut words = env::args(rt)?.skip(1);

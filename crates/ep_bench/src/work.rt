@@ -12,6 +12,7 @@ use crate::messages::{print_news, print_vars, read_changes};
 use crate::revising::{decode_records, encode_records};
 use crate::two::{compose_edits, follow_edits, rebase_edits};
 use crate::typing::slide_typing;
+use crate::undoing::take_back;
 use anyhow::{Result, anyhow};
 use ep_apply::{Doc, apply, fits};
 use ep_attr::Attr;
@@ -57,6 +58,10 @@ pub enum Work {
     Slide,
     /// A client with one unsent letter hears a thousand revisions of another.
     Hear,
+    /// A client types a letter and hears fifteen of others, in turn.
+    Turn,
+    /// The same, and behind each turn it takes the letter back and makes it again.
+    Undo,
     /// The record of a small revision is written.
     Encode,
     /// The record of a small revision is read.
@@ -84,6 +89,8 @@ impl Work {
             "rebase" => Some(Work::Rebase),
             "slide" => Some(Work::Slide),
             "hear" => Some(Work::Hear),
+            "turn" => Some(Work::Turn),
+            "undo" => Some(Work::Undo),
             "encode" => Some(Work::Encode),
             "decode" => Some(Work::Decode),
             "read-changes" => Some(Work::ReadChanges),
@@ -107,6 +114,8 @@ impl Work {
             Work::Rebase => rebase_edits(alloc, units, count),
             Work::Slide => slide_typing(alloc, units, count),
             Work::Hear => hear_edits(alloc, units, count),
+            Work::Turn => take_back(alloc, units, count, false),
+            Work::Undo => take_back(alloc, units, count, true),
             Work::Encode => encode_records(alloc, units, count),
             Work::Decode => decode_records(alloc, units, count),
             Work::ReadChanges => read_changes(alloc, units, count),

@@ -1,9 +1,10 @@
 -- What a keeper tells after a call, from what it told before.
-use Rattle.std.proofs.Common.{◌≡◌, ◌≤◌, ◌∙◌, ℕ, List, [], Bool, true, false, cond, refl, sym, ap, ap₂, subst, subst₂, Option, Some, None, Ok, Err, Result, IfOk, IfSome, IsSome, OnOk, OnErr, is_some, true≢false, arith}
+use Rattle.std.proofs.Common.{◌≡◌, ◌≤◌, ◌∙◌, ◌⊎◌, inl, inr, ℕ, List, [], Bool, true, false, cond, refl, sym, ap, ap₂, subst, subst₂, Option, Some, None, Ok, Err, Result, IfOk, IfSome, IsSome, OnOk, OnErr, is_some, true≢false, arith}
 use Rattle.std.specs.Prelude.{IsTrue, ◌==◌, ◌&&◌}
 use Rattle.std.proofs.lemmas.Bool.{and_parts, and_from}
 use Rattle.std.proofs.lemmas.Bool.Decides.{nat_tests}
 use base.Stored.{Gv, gnil, gnum, gcons}
+use Rattle.sqlite.specs.Disk.{MoreFaults}
 use Rattle.sqlite_trees.proofs.Doubt.{clean_of, no_doubt}
 use Rattle.sqlite.specs.Order.{Row}
 use Rattle.sqlite.specs.State.{State, HasCleanDisk, IsUnchanged}
@@ -18,10 +19,10 @@ use Rattle.sqlite_schema.specs.contracts.schema.Schema.{the_row}
 use Rattle.ep_outside.proofs.Rising.{and_left, and_right, and_both}
 use Rattle.ep_outside.specs.declared.keeper.Pair.{Pair}
 use Rattle.ep_outside.specs.declared.keeper.Put.{Put}
-use Rattle.ep_outside.specs.Kept.{after, listed, value_at, Gets, Lists, Puts, Rises, Stays}
+use Rattle.ep_outside.specs.Kept.{after, listed, value_at, Gets, IsTold, Lists, Puts, Rises, Stays}
 use Rattle.ep_keep_sql.specs.Inside.{Rests}
 use Rattle.ep_keep_sql.specs.KeptTable.{kept_schema}
-use Rattle.ep_keep_sql.specs.Keeps.{began_well, is_ours, map_of, same_code, serves, told_of, Goes, is_kept, is_kept_at, rises_if, rises_told}
+use Rattle.ep_keep_sql.specs.Keeps.{Answers, GoesOn, NeverFails, tells_where, began_well, is_ours, map_of, same_code, serves, told_of, Goes, is_kept, is_kept_at, rises_if, rises_told}
 use Rattle.ep_keep_sql.specs.Told.{map_in, Holds}
 use Rattle.ep_keep_sql.proofs.Removes.{tells}
 use Rattle.ep_keep_sql.proofs.Without.{told_rises}
@@ -147,6 +148,65 @@ back g first h k change P goes turns kept none some = go (began_well g first) re
         let serving = (shows (state g k) n e).serving in
         subst₂ P (sym c.2) (ap Some (sym c.3)) (some c.0 (no_doubt (state g k).is_clean (and_right (state g k).is_open (state g k).is_clean serving)) c.1)
 
+-- ---- what told goes on telling
+
+told_is : (o : Option (List Pair)) → IsTold o → (m : List Pair) × (o ≡ Some m)
+told_is None h = absurd h
+told_is (Some m) h = (m, refl)
+
+is_told : (o : Option (List Pair)) (m : List Pair) → o ≡ Some m → IsTold o
+is_told o m e = subst IsTold (sym e) tt
+
+tells_on : {S : Type 0} (g : Ghosts S) (first : Option (Held S)) (h k : Held S) (change : List Pair → List Pair) → Goes (state g h) (state g k) → Turns (state g h) (state g k) change
+    → GoesOn g (Some h) (Some k) (told_of g first (Some h)) (told_of g first (Some k))
+tells_on g first h k change goes turns clean told = go (began_well g first) told
+  where
+    go : (b : Bool) → IsTold (cond b (map_of (state g h)) None) → IsTold (cond b (map_of (state g k)) None) ⊎ MoreFaults (state g h).faults (state g k).faults
+    go false t = absurd t
+    go true t =
+        let m = told_is (map_of (state g h)) t in
+        let was = shows (state g h) m.0 m.1 in
+        elim (goes.closes clean (and_left (state g h).is_open (state g h).is_clean was.serving)) [
+          | inl is_open ↦
+              let serving = and_both (state g k).is_open (state g k).is_clean is_open (clean_of (state g k).is_clean clean) in
+              inl (is_told (map_of (state g k)) (change m.0) (shows_from (state g k) (change m.0) serving (turns clean is_open m.0 was.holds)))
+          | inr more ↦ inr more
+        ]
+
+told_where : (o : Option (List Pair)) → IsTrue (is_some o) → IsTold o
+told_where None h = absurd (true≢false (sym h))
+told_where (Some m) h = tt
+
+-- where no fault is ever counted
+no_more : (x y : ℕ) → x ≡ 0 → y ≡ 0 → MoreFaults x y → ⊥
+no_more x y none still more = omega arith
+
+some_told : (o : Option (List Pair)) → IsTold o → IsTrue (is_some o)
+some_told None told = absurd told
+some_told (Some m) told = refl
+
+-- what always tells goes on to
+pub still_telling : {S : Type 0} (g : Ghosts S) (first old : Option (Held S)) (k : Held S) (always : Bool) → (IsTrue always → NeverFails g) → GoesOn g old (Some k) (told_of g first old) (told_of g first (Some k))
+    → IsTrue (tells_where always (told_of g first old)) → IsTrue (tells_where always (told_of g first (Some k)))
+still_telling g first old k false never goes was = refl
+still_telling g first None k true never goes was = absurd (true≢false (sym was))
+still_telling g first (Some h) k true never goes was =
+    let store = never refl in
+    elim (goes (store k).0 (told_where (told_of g first (Some h)) was)) [ inl told ↦ some_told (told_of g first (Some k)) told | inr more ↦ absurd (no_more (state g h).faults (state g k).faults (store h).1 (store k).1 more) ]
+
+-- one that isn't marked so may fall silent
+pub no_mark : {S : Type 0} (g : Ghosts S) (always : Bool) → always ≡ false → IsTrue always → NeverFails g
+no_mark g always e is = absurd (true≢false (sym is ∙ e))
+
+pub no_telling : (always : Bool) (told : Option (List Pair)) → always ≡ false → IsTrue (tells_where always told)
+no_telling always told e = subst (λ b. IsTrue (tells_where b told)) (sym e) refl
+
+pub memory_never_fails : NeverFails over_memory
+memory_never_fails h = (memory_is_clean h, refl)
+
+pub telling_now : (told : Option (List Pair)) (m : List Pair) → told ≡ Some m → IsTrue (tells_where true told)
+telling_now told m e = ap is_some e
+
 -- ---- what a keeper always tells
 
 rises_in : (rows : List Row) (o : Option (List Pair)) → map_in rows ≡ o → rises_if o ≡ true
@@ -181,6 +241,20 @@ module _ {S : Type 0} (g : Ghosts S) (first conn : Option (Held S)) (h k : Held 
   pub told_back : (change : List Pair → List Pair) (P : Option (List Pair) → Option (List Pair) → Type 0) → Turns (state g h) (state g k) change → ((o : Option (List Pair)) → P o None)
       → ((m : List Pair) → HasCleanDisk (state g k) → Holds (state g h).now m → P (Some m) (Some (change m))) → P (told_of g first conn) (told_of g first (Some k))
   told_back change P turns none some = subst (λ c. P (told_of g first c) (told_of g first (Some k))) (sym is) (back g first h k change P goes turns kept_here none some)
+
+  pub tells_still : (change : List Pair → List Pair) → Turns (state g h) (state g k) change → GoesOn g conn (Some k) (told_of g first conn) (told_of g first (Some k))
+  tells_still change turns = subst (λ c. GoesOn g c (Some k) (told_of g first c) (told_of g first (Some k))) (sym is) (tells_on g first h k change goes turns)
+
+  tells_open : (change : List Pair → List Pair) → Turns (state g h) (state g k) change → IsTrue (state g k).is_open → Answers g first (Some k) (told_of g first (Some k))
+  tells_open change turns is_open clean well =
+      let serving = and_both (state g k).is_open (state g k).is_clean is_open (clean_of (state g k).is_clean clean) in
+      let told : IsTold (map_of (state g k)) = told_where (map_of (state g k)) (still_kept (began_well g first) (state g h) (state g k) change goes turns kept_here well serving) in
+      subst (λ b. IsTold (cond b (map_of (state g k)) None)) (sym well) told
+
+  -- what is answered is answered by an open connection
+  pub answers : {X : Type 0} (r : Result X Error) → Turns (state g h) (state g k) (λ m. m) → (HasCleanDisk (state g k) → OnOk r (IsTrue (state g k).is_open)) → OnOk r (Answers g first (Some k) (told_of g first (Some k)))
+  answers (Ok x) turns opens = λ clean well. tells_open (λ m. m) turns (opens clean) clean well
+  answers (Err e) turns opens = tt
 
   pub stays : Turns (state g h) (state g k) (λ m. m) → Stays (told_of g first conn) (told_of g first (Some k))
   stays turns = told_back (λ m. m) Stays turns (λ o. tt) (λ m clean holds. refl)
@@ -225,6 +299,14 @@ module _ {S : Type 0} (g : Ghosts S) (first conn : Option (Held S)) (h k : Held 
     pub put_kept : {X : Type 0} (r : Result X Error) → AllPut r → NonePut r → is_kept_at g (began_well g first) (Some k) ≡ true
     put_kept (Ok x) all none = kept_on (λ m. after m puts) (λ clean is_open m holds. all clean m holds)
     put_kept (Err e) all none = kept_on (λ m. m) (λ clean is_open m holds. none_turns clean is_open (none clean is_open) m holds)
+
+    pub put_tells : {X : Type 0} (r : Result X Error) → AllPut r → NonePut r → GoesOn g conn (Some k) (told_of g first conn) (told_of g first (Some k))
+    put_tells (Ok x) all none = tells_still (λ m. after m puts) (λ clean is_open m holds. all clean m holds)
+    put_tells (Err e) all none = tells_still (λ m. m) (λ clean is_open m holds. none_turns clean is_open (none clean is_open) m holds)
+
+    pub put_answers : {X : Type 0} (r : Result X Error) → AllPut r → (HasCleanDisk (state g k) → OnOk r (IsTrue (state g k).is_open)) → OnOk r (Answers g first (Some k) (told_of g first (Some k)))
+    put_answers (Ok x) all opens = λ clean well. tells_open (λ m. after m puts) (λ clean is_open m holds. all clean m holds) (opens clean) clean well
+    put_answers (Err e) all opens = tt
 
     pub ok_puts : {X : Type 0} (r : Result X Error) → AllPut r → OnOk r (Puts (told_of g first conn) (told_of g first (Some k)) puts)
     ok_puts (Ok x) all = puts_all puts (λ clean is_open m holds. all clean m holds)

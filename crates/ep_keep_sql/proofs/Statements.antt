@@ -43,7 +43,7 @@ unfolding QueriesRow
 stays_as_read old new params row has (inl h) = h.1
 stays_as_read old new params row has (inr h) = shown_same get_text get_plain old new params h.0 has h.1
 
-no_store_error : (cause : StoreError) → QueryReturnedNoRows ≡ store_error cause → ⊥
+pub no_store_error : (cause : StoreError) → QueryReturnedNoRows ≡ store_error cause → ⊥
 no_store_error store.OutOfMemory e = cc
 no_store_error store.Io e = cc
 no_store_error store.Corrupt e = cc

@@ -8,7 +8,7 @@ ghost use Rattle.sqlite.specs.State.{HasCleanDisk, IsUnchanged};
 ghost use Rattle.sqlite.specs.Held.{state};
 ghost use Rattle.ep_outside.specs.Kept.{after, key_cmp, listed, put_in, value_at, with, without};
 ghost use Rattle.ep_outside.specs.declared.keeper.Pair.{Pair};
-ghost use Rattle.ep_keep_sql.specs.Inside.{Finds, IsSettled, Makes, Rests, Steps};
+ghost use Rattle.ep_keep_sql.specs.Inside.{Finds, IsFound, IsSettled, Makes, Rests, Steps};
 ghost use Rattle.ep_keep_sql.specs.Keeps.{Goes};
 ghost use Rattle.ep_keep_sql.specs.KeptTable.{kept_schema, no_schema};
 ghost use Rattle.ep_keep_sql.specs.Told.{Holds, ShowsListed, shows};
@@ -62,6 +62,7 @@ fn row_of<S: Alter>(conn: &mut Connection<S>, key: &str) -> Result<Row, Error>
     ensures goes { Goes (state S.Store conn.old) (state S.Store conn.new) }
     ensures row { HasCleanDisk (state S.Store conn.new) → (m : List Pair) → Holds (state S.Store conn.old).now m → Finds m key.now result }
     ensures same { (m : List Pair) → Holds (state S.Store conn.old).now m → IsSettled (state S.Store conn.old) → Rests (state S.Store conn.old) (state S.Store conn.new) }
+    ensures opens { HasCleanDisk (state S.Store conn.new) → IsFound result → IsTrue (state S.Store conn.new).is_open }
 {
     conn.query_row(GET, params![key])
 }
@@ -71,6 +72,7 @@ pub fn value_of<S: Alter>(conn: &mut Connection<S>, key: &str) -> Result<Option<
     ensures goes { Goes (state S.Store conn.old) (state S.Store conn.new) }
     ensures value { HasCleanDisk (state S.Store conn.new) → (m : List Pair) → Holds (state S.Store conn.old).now m → IfOk result (λ v. v ≡ value_at m key.now) }
     ensures same { (m : List Pair) → Holds (state S.Store conn.old).now m → Rests (state S.Store conn.old) (state S.Store conn.new) }
+    ensures opens { HasCleanDisk (state S.Store conn.new) → OnOk result (IsTrue (state S.Store conn.new).is_open) }
 {
     settled(conn)?;
     match row_of(conn, key) {
@@ -133,6 +135,7 @@ pub fn put_all<S: Alter>(conn: &mut Connection<S>, puts: &[Put]) -> Result<(), E
     ensures goes { Goes (state S.Store conn.old) (state S.Store conn.new) }
     ensures all { HasCleanDisk (state S.Store conn.new) → (m : List Pair) → Holds (state S.Store conn.old).now m → OnOk result (Holds (state S.Store conn.new).now (after m puts.now)) }
     ensures committed { HasCleanDisk (state S.Store conn.new) → OnOk result ((state S.Store conn.new).committed ≡ (state S.Store conn.new).now) }
+    ensures opens { HasCleanDisk (state S.Store conn.new) → OnOk result (IsTrue (state S.Store conn.new).is_open) }
     ensures none { HasCleanDisk (state S.Store conn.new) → IsTrue (state S.Store conn.new).is_open
         → OnErr result (((state S.Store conn.new).now ≡ (state S.Store conn.old).now) × ((state S.Store conn.new).committed ≡ (state S.Store conn.old).committed)) }
 {
@@ -177,6 +180,7 @@ fn rows_from<S: Alter>(conn: &mut Connection<S>, prefix: &str) -> Result<Vec<Row
     ensures goes { Goes (state S.Store conn.old) (state S.Store conn.new) }
     ensures rows { HasCleanDisk (state S.Store conn.new) → (m : List Pair) → Holds (state S.Store conn.old).now m → IfOk result (λ rows. ShowsListed m prefix.now rows.items) }
     ensures same { (m : List Pair) → Holds (state S.Store conn.old).now m → IsSettled (state S.Store conn.old) → Rests (state S.Store conn.old) (state S.Store conn.new) }
+    ensures opens { HasCleanDisk (state S.Store conn.new) → OnOk result (IsTrue (state S.Store conn.new).is_open) }
 {
     conn.query_all(FROM, params![prefix])
 }
@@ -190,6 +194,7 @@ fn rows_between<S: Alter>(
     ensures rows { ((n : List ℕ) → starts_with nat_eq n prefix.now ≡ true → key_cmp n end.now ≡ Ordering.Less) → HasCleanDisk (state S.Store conn.new)
         → (m : List Pair) → Holds (state S.Store conn.old).now m → IfOk result (λ rows. ShowsListed m prefix.now rows.items) }
     ensures same { (m : List Pair) → Holds (state S.Store conn.old).now m → IsSettled (state S.Store conn.old) → Rests (state S.Store conn.old) (state S.Store conn.new) }
+    ensures opens { HasCleanDisk (state S.Store conn.new) → OnOk result (IsTrue (state S.Store conn.new).is_open) }
 {
     conn.query_all(BETWEEN, params![prefix, end])
 }
@@ -203,6 +208,7 @@ fn rows_with<S: Alter>(
     ensures goes { Goes (state S.Store conn.old) (state S.Store conn.new) }
     ensures rows { HasCleanDisk (state S.Store conn.new) → (m : List Pair) → Holds (state S.Store conn.old).now m → IfOk result (λ rows. ShowsListed m prefix.now rows.items) }
     ensures same { (m : List Pair) → Holds (state S.Store conn.old).now m → IsSettled (state S.Store conn.old) → Rests (state S.Store conn.old) (state S.Store conn.new) }
+    ensures opens { HasCleanDisk (state S.Store conn.new) → OnOk result (IsTrue (state S.Store conn.new).is_open) }
 {
     let Ok(end) = end_of_prefix(alloc, prefix) else {
         return Err(OUT_OF_MEMORY);
@@ -222,6 +228,7 @@ pub fn pairs_with<S: Alter>(
     ensures goes { Goes (state S.Store conn.old) (state S.Store conn.new) }
     ensures pairs { HasCleanDisk (state S.Store conn.new) → (m : List Pair) → Holds (state S.Store conn.old).now m → IfOk result (λ pairs. pairs ≡ listed m prefix.now) }
     ensures same { (m : List Pair) → Holds (state S.Store conn.old).now m → Rests (state S.Store conn.old) (state S.Store conn.new) }
+    ensures opens { HasCleanDisk (state S.Store conn.new) → OnOk result (IsTrue (state S.Store conn.new).is_open) }
 {
     settled(conn)?;
     let rows = rows_with(conn, alloc, prefix)?;

@@ -18,10 +18,12 @@ use ep_outside::Disk;
 use ep_pad_state::{CatchUp, Committed, Fetched, LoggedIn, PadStatus, Piece, Welcome};
 use ep_units::{Grant, Session, Units};
 
+// Of the calls that record something: where memory is wanting, an open machine made no device call (`unmade`).
 impl<D: Disk> PadMachine<D> {
     /// Somebody logs in with a grant, at this moment. An absent pad is made, with no text, for the one who may.
     pub fn login(&mut self, grant: &Grant, now: u64) -> Result<Welcome, PadBad>
-        ensures { StepsOver D.told D.failures D.moment D.since D.is_steady D.stops_alone D.left self.old (Login grant.now now) (λ x. LoginAnswer (welcome_of x)) result self.new }
+        ensures steps { StepsOver D.told D.failures D.moment D.since D.is_steady D.stops_alone D.left self.old (Login grant.now now) (λ x. LoginAnswer (welcome_of x)) result self.new }
+        ensures unmade { self.old.is_open ≡ true → IfErr result (λ bad. bad ≡ lacks.NoMemory → IsUncalled D.told D.failures D.left self.old.disk self.new.disk) }
     {
         self.wake()?;
         match self.pad.login(self.alloc, grant, now)? {
@@ -54,7 +56,6 @@ impl<D: Disk> PadMachine<D> {
         now: u64,
     ) -> Result<Committed, PadBad>
         ensures steps { StepsOver D.told D.failures D.moment D.since D.is_steady D.stops_alone D.left self.old (Accept session base change now) (λ x. CommitAnswer (told_by x)) result self.new }
-        // Where memory is wanting, an open machine made no device call.
         ensures unmade { self.old.is_open ≡ true → IfErr result (λ bad. bad ≡ lacks.NoMemory → IsUncalled D.told D.failures D.left self.old.disk self.new.disk) }
     {
         self.wake()?;
@@ -96,7 +97,8 @@ impl<D: Disk> PadMachine<D> {
     /// The pad is made with a text, and its birth is answered.
     pub fn create(&mut self, text: &Units, now: u64) -> Result<u64, PadBad>
         requires { is_well_formed text.now ≡ true }
-        ensures { StepsOver D.told D.failures D.moment D.since D.is_steady D.stops_alone D.left self.old (Create text.now now) BirthAnswer result self.new }
+        ensures steps { StepsOver D.told D.failures D.moment D.since D.is_steady D.stops_alone D.left self.old (Create text.now now) BirthAnswer result self.new }
+        ensures unmade { self.old.is_open ≡ true → IfErr result (λ bad. bad ≡ lacks.NoMemory → IsUncalled D.told D.failures D.left self.old.disk self.new.disk) }
     {
         self.wake()?;
         let ready = self.pad.create(self.alloc, text, now)?;
@@ -106,7 +108,8 @@ impl<D: Disk> PadMachine<D> {
     /// The server's text is set.
     pub fn set_text(&mut self, text: &Units, now: u64) -> Result<Committed, PadBad>
         requires { is_well_formed text.now ≡ true }
-        ensures { StepsOver D.told D.failures D.moment D.since D.is_steady D.stops_alone D.left self.old (SetText text.now now) (λ x. CommitAnswer (told_by x)) result self.new }
+        ensures steps { StepsOver D.told D.failures D.moment D.since D.is_steady D.stops_alone D.left self.old (SetText text.now now) (λ x. CommitAnswer (told_by x)) result self.new }
+        ensures unmade { self.old.is_open ≡ true → IfErr result (λ bad. bad ≡ lacks.NoMemory → IsUncalled D.told D.failures D.left self.old.disk self.new.disk) }
     {
         self.wake()?;
         let ready = self.pad.set_text(self.alloc, text, now)?;
@@ -115,7 +118,8 @@ impl<D: Disk> PadMachine<D> {
 
     /// The pad is deleted, and its sessions end.
     pub fn delete(&mut self, now: u64) -> Result<(), PadBad>
-        ensures { StepsOver D.told D.failures D.moment D.since D.is_steady D.stops_alone D.left self.old (Delete now) (λ _. Done) result self.new }
+        ensures steps { StepsOver D.told D.failures D.moment D.since D.is_steady D.stops_alone D.left self.old (Delete now) (λ _. Done) result self.new }
+        ensures unmade { self.old.is_open ≡ true → IfErr result (λ bad. bad ≡ lacks.NoMemory → IsUncalled D.told D.failures D.left self.old.disk self.new.disk) }
     {
         self.wake()?;
         let ready = self.pad.delete(now)?;
@@ -124,7 +128,8 @@ impl<D: Disk> PadMachine<D> {
 
     /// Whether anybody may enter a group's pad.
     pub fn set_public(&mut self, on: bool) -> Result<(), PadBad>
-        ensures { StepsOver D.told D.failures D.moment D.since D.is_steady D.stops_alone D.left self.old (SetPublic on) (λ _. Done) result self.new }
+        ensures steps { StepsOver D.told D.failures D.moment D.since D.is_steady D.stops_alone D.left self.old (SetPublic on) (λ _. Done) result self.new }
+        ensures unmade { self.old.is_open ≡ true → IfErr result (λ bad. bad ≡ lacks.NoMemory → IsUncalled D.told D.failures D.left self.old.disk self.new.disk) }
     {
         self.wake()?;
         let ready = self.pad.set_public(on)?;

@@ -76,6 +76,9 @@ impl<D: Crash> PadMachine<D> {
             → IfErr result (λ bad. bad ≡ PadBad.JournalFull n → (next : MachineState)
             × HasNoRoom st (Accept session base change now) (λ mid. is_kept (gate_behind mid.records) calls asked) bad next
             × Stands D.told D.failures self.new next) }
+        // Over any disk the machine then stays closed.
+        ensures shut { (st : MachineState) (n : ℕ) → IsKeptState st → Stands D.told D.failures self.old st → IfErr result (λ bad. bad ≡ PadBad.JournalFull n
+            → (next : MachineState) × StaysStopped st (Accept session base change now) bad next × Stands D.told D.failures self.new next) }
         ensures works { OnOk result (D.left self.new.disk ≡ None) }
         // Over any disk it is one step of the machine, and then a crash.
         ensures steps { (st : MachineState) → IsKeptState st → Stands D.told D.failures self.old st → IfOk result

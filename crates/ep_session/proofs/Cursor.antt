@@ -25,7 +25,7 @@ use Rattle.ep_wire_words.specs.declared.server.ServerMsg.TheVariants as msg
 use Rattle.ep_link.specs.declared.passed.LinkGot.{LinkGot}
 use Rattle.ep_link.specs.declared.passed.LinkGot.TheVariants as got
 use Rattle.ep_session.specs.Output.{said_by, said_of, place_at, Counts, IsCursor}
-use Rattle.ep_session.specs.Session.{Did, Heard, Understood, Said, Unsaid, Duty, Greet, Begin, Ask, Enter, Login, Rejoin, Hear, Understand, Take, Look, Show, Fetch, Tell, TellNop, Say, Outcome, Then, Ends, Runs, Sends, heard, asked, begun, greeted, granted, entered, welcomed, none_missed, rejoined, took, looked, shown, slid, unfit, changes_of, fetched, is_full, nops_due, news_due, due_at, counted, telling, told, nop_telling, nop_told, is_step}
+use Rattle.ep_session.specs.Session.{Did, Heard, Understood, Said, Unsaid, Duty, Greet, Begin, Ask, Enter, Login, Rejoin, Hear, Understand, Take, Look, Show, Fetch, Tell, TellNop, Say, Outcome, Then, Ends, Runs, Sends, heard, asked, begun, greeted, granted, entered, welcomed, none_missed, rejoined, took, looked, shown, slid, unfit, changes_of, fetched, is_full, nops_due, news_due, due_at, counted, telling, told, nop_telling, nop_told, is_step, admitted, is_short}
 use Rattle.ep_session.specs.declared.end.End.{End}
 use Rattle.ep_session.specs.declared.end.End.TheVariants as ends
 use Rattle.ep_session.specs.declared.place.Place.{Place}
@@ -217,7 +217,14 @@ Opens at (Then to more) = (to.rev ≡ to.start) × (((d : Duty) × Opening d × 
 Opens at (Ends to e) = to ≡ at
 
 begun_opens : (at : Place) (drawn : Drawn) (r : Result ClientMsg WireBad) → at.rev ≡ at.start → Opens at (begun at drawn r)
-begun_opens at drawn (Ok (msgs.Ready pad token sessions resume)) z = (z, inl (Ask drawn (record { pad = pad; token = token; sessions = sessions; resume = resume }), tt, refl))
+begun_opens at drawn (Ok (msgs.Ready pad token sessions resume)) z = first (is_short token)
+  where
+    ready : Ready
+    ready = record { pad = pad; token = token; sessions = sessions; resume = resume }
+
+    first : (b : Bool) → Opens at (admitted at drawn ready b)
+    first true = (z, inl (Ask drawn ready, tt, refl))
+    first false = refl
 begun_opens at drawn (Ok (msgs.Edit base change)) z = refl
 begun_opens at drawn (Ok (msgs.Slide start granularity request)) z = refl
 begun_opens at drawn (Ok msgs.Other) z = refl

@@ -24,7 +24,7 @@ use Rattle.ep_wire_words.specs.declared.server.ServerMsg.TheVariants as msg
 use Rattle.ep_link.specs.declared.passed.LinkGot.{LinkGot}
 use Rattle.ep_link.specs.declared.passed.LinkGot.TheVariants as got
 use Rattle.ep_session.specs.Output.{said_by, said_of, place_at}
-use Rattle.ep_session.specs.Session.{Did, Heard, Understood, Granted, Entered, Called, Duty, Greet, Begin, Ask, Enter, Login, Rejoin, Hear, Fetch, Say, Outcome, Then, Ends, Runs, begun, greeted, granted, entered, joining, welcomed, welcome_place, rejoined, rejoin_place, none_missed, vars, calls_of}
+use Rattle.ep_session.specs.Session.{Did, Heard, Understood, Granted, Entered, Called, Duty, Greet, Begin, Ask, Enter, Login, Rejoin, Hear, Fetch, Say, Outcome, Then, Ends, Runs, begun, greeted, granted, entered, joining, welcomed, welcome_place, rejoined, rejoin_place, none_missed, vars, calls_of, admitted, is_short}
 use Rattle.ep_session.specs.declared.end.End.{End}
 use Rattle.ep_session.specs.declared.place.Place.{Place}
 use Rattle.ep_session.specs.declared.ready.Ready.{Ready}
@@ -63,7 +63,11 @@ greeted_place at drawn got.Failed n = refl
 greeted_place at drawn got.NoMemory n = refl
 
 begun_place : (at : Place) (drawn : Drawn) (r : Result ClientMsg WireBad) → place_at (begun at drawn r) ≡ at
-begun_place at drawn (Ok (msgs.Ready pad token sessions resume)) = refl
+begun_place at drawn (Ok (msgs.Ready pad token sessions resume)) = first (is_short token)
+  where
+    first : (b : Bool) → place_at (admitted at drawn (record { pad = pad; token = token; sessions = sessions; resume = resume }) b) ≡ at
+    first true = refl
+    first false = refl
 begun_place at drawn (Ok (msgs.Edit base change)) = refl
 begun_place at drawn (Ok (msgs.Slide start granularity request)) = refl
 begun_place at drawn (Ok msgs.Other) = refl
@@ -162,9 +166,14 @@ begins pad at drawn text [] out outer one r = λ inside. outside at out outer (a
 begins pad at drawn text (did ∷ log) out outer one (inl (to, more, (g, reads, is, same), r)) = go g same
   where
     go : (x : Result ClientMsg WireBad) → Then to more ≡ begun at drawn x → IsLaw pad out (did ∷ log)
-    go (Ok (msgs.Ready id token sessions resume)) same =
-        let ready : Ready = record { pad = id; token = token; sessions = sessions; resume = resume } in
-        law_passed pad out did (Understood text g) log is refl (asks pad at drawn ready log out outer (one_passed pad did (Understood text g) log is refl one) (moved to at more (Ask drawn ready ∷ []) log out same [] r))
+    go (Ok (msgs.Ready id token sessions resume)) same = first (is_short token) same
+      where
+        ready : Ready
+        ready = record { pad = id; token = token; sessions = sessions; resume = resume }
+
+        first : (b : Bool) → Then to more ≡ admitted at drawn ready b → IsLaw pad out (did ∷ log)
+        first true so = law_passed pad out did (Understood text g) log is refl (asks pad at drawn ready log out outer (one_passed pad did (Understood text g) log is refl one) (moved to at more (Ask drawn ready ∷ []) log out so [] r))
+        first false so = absurd (not_both to at more _ so)
     go (Ok (msgs.Edit base change)) same = absurd (not_both to at more _ same)
     go (Ok (msgs.Slide start granularity request)) same = absurd (not_both to at more _ same)
     go (Ok msgs.Other) same = absurd (not_both to at more _ same)

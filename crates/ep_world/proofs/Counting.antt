@@ -22,7 +22,7 @@ use Rattle.ep_pad.specs.Opening.{HasRisenTo, Sleeps}
 use Rattle.ep_pad.specs.Standing.{Stands, replied}
 use Rattle.ep_pad_file.specs.Standing.{size}
 use Rattle.ep_pad_state.specs.declared.answers.Fetched.{Fetched}
-use Rattle.ep_schedule.specs.World.{Name, WorldState}
+use Rattle.ep_schedule.specs.World.{Name}
 use Rattle.ep_event.specs.declared.event.Event.{Event as Told}
 use Rattle.ep_event.specs.declared.event.Event.TheVariants as told
 use Rattle.ep_event.specs.declared.shown.Shown.{Shown}
@@ -214,17 +214,17 @@ said : (alone : Bool) (e : Told) (p : Type 0) → p → Said alone e p
 said alone (told.Stop (Some at)) p h = λ _. h
 said alone e p h = h
 
-pub caused-ends : (alone : Bool) (rs : List Record) (w : WorldState) (now : ℕ) (e : Told) (before after : ℕ) (b : WorldBad) → IsCaused before after b → IsEnded alone rs w now e before after b
-caused-ends alone rs w now e before after (world_bad.Store n) h = said alone e (HasRisenTo before after n) h
-caused-ends alone rs w now e before after (world_bad.Full n) h = absurd h
-caused-ends alone rs w now e before after world_bad.Unknown h = tt
-caused-ends alone rs w now e before after world_bad.NoText h = tt
-caused-ends alone rs w now e before after world_bad.NoMemory h = tt
+pub caused-ends : (alone : Bool) (e : Told) (before after : ℕ) (b : WorldBad) → IsCaused before after b → IsEnded alone e before after b
+caused-ends alone e before after (world_bad.Store n) h = said alone e (HasRisenTo before after n) h
+caused-ends alone e before after (world_bad.Full n) h = absurd h
+caused-ends alone e before after world_bad.Unknown h = tt
+caused-ends alone e before after world_bad.NoText h = tt
+caused-ends alone e before after world_bad.NoMemory h = tt
 
-pub counts-ends : (alone : Bool) (rs : List Record) (w : WorldState) (now : ℕ) (e : Told) (before after : ℕ) (r : Result Shown WorldBad) → Counts before after r
-    → IfErr r (IsEnded alone rs w now e before after)
-counts-ends alone rs w now e before after (Ok x) h = tt
-counts-ends alone rs w now e before after (Err b) h = caused-ends alone rs w now e before after b h
+pub counts-ends : (alone : Bool) (e : Told) (before after : ℕ) (r : Result Shown WorldBad) → Counts before after r
+    → IfErr r (IsEnded alone e before after)
+counts-ends alone e before after (Ok x) h = tt
+counts-ends alone e before after (Err b) h = caused-ends alone e before after b h
 
 -- a failure that is passed on
 pub as-err : {A : Type 0} (P : A → Type 0) (Q : WorldBad → Type 0) (r : Result A WorldBad) (b : WorldBad) → r ≡ Err b → Q b → MatchResult r P Q
@@ -246,11 +246,11 @@ memory-caused before now (world_bad.Full n) f = unlike (f (λ q. cc))
 memory-caused before now b f = tt
 
 -- a refusal that the pad gave
-pub refused-ends : (alone : Bool) (rs : List Record) (w : WorldState) (now : ℕ) (e : Told) (before after : ℕ) (v : Verb) (n : Option Name) (b : PadBad) → BadCounts before after b
-    → IfErr (shown_or_failed v n b) (IsEnded alone rs w now e before after)
-refused-ends alone rs w now e before after v n (bad.Store c) h = caused-ends alone rs w now e before after (world_bad.Store c) h
-refused-ends alone rs w now e before after v n bad.NoMemory h = tt
-refused-ends alone rs w now e before after v n b h = tt
+pub refused-ends : (alone : Bool) (e : Told) (before after : ℕ) (v : Verb) (n : Option Name) (b : PadBad) → BadCounts before after b
+    → IfErr (shown_or_failed v n b) (IsEnded alone e before after)
+refused-ends alone e before after v n (bad.Store c) h = caused-ends alone e before after (world_bad.Store c) h
+refused-ends alone e before after v n bad.NoMemory h = tt
+refused-ends alone e before after v n b h = tt
 
 -- ---- a call of a machine
 

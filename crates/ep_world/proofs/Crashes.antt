@@ -1,7 +1,7 @@
 -- What a crash comes to, and an opening.
 use Rattle.std.proofs.Common.{◌≡◌, ℕ, suc, ◌<◌, Bool, true, false, not, List, [], ◌∷◌, ◌++◌, length, Option, Some, None, Result, Ok, Err, ◌⊎◌, inl, inr, if◌then◌else◌, refl, sym, ap, ◌∙◌, subst, arith}
 use Rattle.std.specs.Option.{option_map}
-use Rattle.std.specs.Prelude.{◌&&◌, IfOk, MatchResult, is_none}
+use Rattle.std.specs.Prelude.{◌&&◌, IfOk, MatchResult, is_none, IfErr}
 use Rattle.std.proofs.lemmas.List.{length-append}
 use Rattle.ep_units.specs.Text.{text_eq}
 use Rattle.ep_units.specs.declared.session.Session.{Session}
@@ -41,10 +41,12 @@ use Rattle.ep_schedule.specs.World.{Name, Actor as AnActor, Conn, Member as AMem
 use Rattle.ep_schedule.specs.World.Reason.{Refused}
 use Rattle.ep_schedule.specs.World.Actor.{Nobody, Guest, Named}
 use Rattle.ep_pad.specs.Held.{Held}
-use Rattle.ep_pad.specs.Opening.{IsWoken, Sleeps, stopped}
+use Rattle.ep_pad.specs.Opening.{IsFullThen, IsWoken, Sleeps, stopped}
 use Rattle.ep_pad.specs.Opening.IsWoken.{Was, Opened}
 use Rattle.ep_pad.specs.Standing.{Stands, opening, replied}
-use Rattle.ep_pad.specs.Stopping.{StopsIn}
+use Rattle.ep_pad.specs.Stopping.{HasNoRoom as NoRoomBehind, StaysStopped, StopsIn}
+use Rattle.ep_pad.specs.Stopping.HasNoRoom.{FullBefore, FullBehind}
+use Rattle.ep_pad.specs.Stopping.StaysStopped.{Before, Behind}
 use Rattle.ep_pad_file.specs.Stopping.{gate_behind, is_kept}
 use Rattle.ep_pad_file.specs.Standing.{size}
 use Rattle.ep_pad_state.specs.Answering.{status_of}
@@ -81,6 +83,10 @@ use Rattle.ep_world.proofs.Shut.{full-shut, none-pending, open-full, open-shut, 
 pub if-ok : {A E : Type 0} (r : Result A E) (P Q : Type 0) → (P → Q) → IfOk r (λ _. P) → IfOk r (λ _. Q)
 if-ok (Ok x) P Q f p = f p
 if-ok (Err e) P Q f p = tt
+
+-- what is said of a refusal holds where it was this one
+pub behind-full : {A : Type 0} (P : PadBad → Type 0) (r : Result A PadBad) (b : PadBad) → r ≡ Err b → IfErr r (λ x. x ≡ b → P x) → P b
+behind-full P r b is h = subst (λ y. IfErr y (λ x. x ≡ b → P x)) is h refl
 
 -- a program's answer that isn't want of memory is none by the rules
 pub not-lacking : {A : Type 0} (f : A → Answer) (r : Result A PadBad) → (r ≡ Err bad.NoMemory → ⊥) → replied f r ≡ Err bad.NoMemory → ⊥
@@ -241,6 +247,15 @@ module _ (st : MachineState) (s : Session) (now : ℕ) (msg : Message) where
           subst (λ w. goal w (turned (is_edit msg.change.edit) (refusal st.pad s msg.base msg.change))) (sym (reason-of st.pad s msg None i h))
           (subst (λ (x : Option PadBad). goal None (turned (is_edit msg.change.edit) x)) (sym h)
           (subst (λ can. goal None (turned can None)) (sym i) (keeps (journal_fault size st taken) refl)))
+
+-- a state in which nothing is pending, whose journal has no room for its opening
+full-asleep : (at next : MachineState) (n : ℕ) → at.pending ≡ [] → IsFullThen (stopped at) (bad.JournalFull n) next → IsAsleep (stopped at) n next
+full-asleep at next n none h =
+    let same : settled false (stopped at) ≡ stopped at = ap (λ (rs : List Record). record (stopped at) { pending = rs }) (sym none) in (
+      false,
+      subst (λ (m : MachineState). journal_fault size m (open_record m) ≡ Some (bad.JournalFull n)) (sym same) h.0,
+      subst (λ (m : MachineState). IsThen m next) (sym same) h.1,
+    )
 
 -- where nothing would be recorded, nothing is changed
 nothing-kept : (k : Bool) → kept_record k None ≡ None
@@ -439,9 +454,9 @@ module _ {D : Type 0} (told_by : D → Option Contents) (failures : D → ℕ) (
           record { kept = reopening-kept (settled false (stopped st)) x.kept; pending = tt; whole = λ e. refl }
 
   -- one whose journal has no room for the opening
-  pub sleeps : (new : Held D) (st next : MachineState) (n : ℕ) → IsKeptState st → Sleeps (stopped st) (bad.JournalFull n) next → Stands told_by failures new next → stops_alone new.disk ≡ alone
+  stays-shut : (new : Held D) (st next : MachineState) (n : ℕ) → IsKeptState st → IsAsleep (stopped st) n next → Stands told_by failures new next → stops_alone new.disk ≡ alone
       → Reopens told_by failures stops_alone alone st new
-  sleeps new st next n k z s m = (
+  stays-shut new st next n k f s m = (
     f.0,
     inr (
       n,
@@ -462,9 +477,6 @@ module _ {D : Type 0} (told_by : D → Option Contents) (failures : D → ℕ) (
     ),
   )
     where
-      f : IsAsleep (stopped st) n next
-      f = sleeps-full (stopped st) next n z
-
       full : (kept : Bool) → journal_fault size (settled kept (stopped st)) (open_record (settled kept (stopped st))) ≡ Some (bad.JournalFull n)
           → unopened (settled kept st).records (settled kept st).pad ≡ Some (bad.JournalFull n)
       full true e = e
@@ -484,6 +496,10 @@ module _ {D : Type 0} (told_by : D → Option Contents) (failures : D → ℕ) (
       is-kept : (kept : Bool) → IsKeptState (record (settled kept (stopped st)) { faults = next.faults })
       is-kept true = let x = settled-kept (stopped st) true (stopped-kept st k) in record { kept = x.kept; pending = tt; whole = λ e. refl }
       is-kept false = let x = settled-kept (stopped st) false (stopped-kept st k) in record { kept = x.kept; pending = tt; whole = λ e. refl }
+
+  pub sleeps : (new : Held D) (st next : MachineState) (n : ℕ) → IsKeptState st → Sleeps (stopped st) (bad.JournalFull n) next → Stands told_by failures new next → stops_alone new.disk ≡ alone
+      → Reopens told_by failures stops_alone alone st new
+  sleeps new st next n k z s m = stays-shut new st next n k (sleeps-full (stopped st) next n z) s m
 
   -- a state with these records and this pad is one with those
   pub opens-as : (new : Held D) (st : MachineState) (rs : List Record) (pad : PadState) → (r : Reopens told_by failures stops_alone alone st new)
@@ -555,6 +571,14 @@ module _ {D : Type 0} (told_by : D → Option Contents) (failures : D → ℕ) (
   BrokenAlone st e reply calls image new =
       (mid at last : MachineState) × IsWoken st mid × StopsIn mid e reply (is_kept (gate_behind mid.records) calls image) at × IsWoken at last × Stands told_by failures new last
 
+  -- the same where the journal has no room for the opening behind it
+  abbrev pub StaysFull : MachineState → Entry → ℕ → Held D → Type 0
+  StaysFull st e n new = (last : MachineState) × StaysStopped st e (bad.JournalFull n) last × Stands told_by failures new last
+
+  abbrev pub FullAlone : MachineState → Entry → ℕ → ℕ → Image → Held D → Type 0
+  FullAlone st e n calls image new =
+      (last : MachineState) × NoRoomBehind st e (λ mid. is_kept (gate_behind mid.records) calls image) (bad.JournalFull n) last × Stands told_by failures new last
+
   -- of this state
   module _ (new : Held D) (st : MachineState) (s : Session) (now : ℕ) (msg : Message) (reply : Reply) (calls : ℕ) (image : Image) (i : is_edit msg.change.edit ≡ true) (k : IsKeptState st)
       (o : st.is_open ≡ true) (mark : stops_alone new.disk ≡ alone) where
@@ -594,12 +618,51 @@ module _ {D : Type 0} (told_by : D → Option Contents) (failures : D → ℕ) (
         let f = turn-found st s now msg i (k.whole o) has in
         breaks-at at (decided st s now msg has) r (settled-whole r.0 at f.settled ∙ f.pad) (settled-records r.0 at f.settled ∙ f.records) (λ _. refl)
 
-  -- the first message of a name, whose text spells a change
-  pub breaks-first : (old new : Held D) (rs : List Record) (pad : PadState) (now : ℕ) (message : Option (Session × Message)) (first : Option (Session × Sent)) (s : Session) (x : Sent) (c : Change)
-      (reply : Reply) (calls : ℕ) (image : Image) → first ≡ option_map taken_of message → first ≡ Some (s, x) → x.change ≡ Ok c → IsNormal c → (a : IsOpenAt told_by failures stops_alone alone rs old pad)
-      → stops_alone new.disk ≡ stops_alone old.disk → (reply ≡ Err bad.NoMemory → ⊥) → Broken a.state (Accept s x.base c now) reply new
-      → (stops_alone old.disk ≡ true → BrokenAlone a.state (Accept s x.base c now) reply calls image new) → BreaksOff told_by failures stops_alone alone rs pad now message calls image new
-  breaks-first old new rs pad now message first s x c reply calls image e h ok n a mark heard over sure = go message (sym e ∙ h)
+  -- of this state, where the journal has no room for the opening behind the take
+  module _ (new : Held D) (st : MachineState) (s : Session) (now : ℕ) (msg : Message) (n calls : ℕ) (image : Image) (i : is_edit msg.change.edit ≡ true) (k : IsKeptState st)
+      (o : st.is_open ≡ true) (mark : stops_alone new.disk ≡ alone) where
+    not-before : (last : MachineState) → Sleeps st (bad.JournalFull n) last → ⊥
+    not-before last z = let q : true ≡ false = sym o ∙ z.0 in cc
+
+    full-open : alone ≡ false → StaysFull st (Accept s msg.base msg.change now) n new → BreaksOff told_by failures stops_alone alone st.records st.pad now (Some (s, msg)) calls image new
+    full-open f x = go x.1
+      where
+        go : StaysStopped st (Accept s msg.base msg.change now) (bad.JournalFull n) x.0 → BreaksOff told_by failures stops_alone alone st.records st.pad now (Some (s, msg)) calls image new
+        go (Before z) = absurd (not-before x.0 z)
+        go (Behind mid next reply w step z) =
+            let same = subst (λ m. IsStep size m (Accept s msg.base msg.change now) reply next) (awake st mid o w) step in
+            let is : IsOpenStep size st (Accept s msg.base msg.change now) reply next = subst (λ b. IsStepAs b size st (Accept s msg.base msg.change now) reply next) o same in
+            let r = sleeps new next x.0 n (step-kept size st (Accept s msg.base msg.change now) reply next k same) z x.2 mark in
+            let t = step-settles st s now msg reply next i k o is r.0 in
+            breaks-at new st s now msg reply calls image i k o mark next t.0 r t.1 t.2 (λ a. absurd (let q : true ≡ false = sym a ∙ f in cc))
+
+    full-alone : FullAlone st (Accept s msg.base msg.change now) n calls image new → BreaksOff told_by failures stops_alone alone st.records st.pad now (Some (s, msg)) calls image new
+    full-alone x = go x.1
+      where
+        has : Bool
+        has = is_kept (gate_behind st.records) calls image
+
+        at : MachineState
+        at = found-at st s now msg has
+
+        go : NoRoomBehind st (Accept s msg.base msg.change now) (λ mid. is_kept (gate_behind mid.records) calls image) (bad.JournalFull n) x.0
+            → BreaksOff told_by failures stops_alone alone st.records st.pad now (Some (s, msg)) calls image new
+        go (FullBefore z) = absurd (not-before x.0 z)
+        go (FullBehind mid w full) =
+            let f = turn-found st s now msg i (k.whole o) has in
+            let asleep : IsFullThen (stopped at) (bad.JournalFull n) x.0 =
+            subst (λ (m : MachineState). IsFullThen (stopped (if is_kept (gate_behind m.records) calls image then (turn size m (Accept s msg.base msg.change now)).state else m)) (bad.JournalFull n) x.0)
+            (awake st mid o w) full in
+            let r = stays-shut new at x.0 n (found-kept new st s now msg (Err bad.NoMemory) calls image i k o mark has) (full-asleep at x.0 n f.settled asleep) x.2 mark in
+            breaks-at new st s now msg (Err bad.NoMemory) calls image i k o mark at (decided st s now msg has) r (settled-whole r.0 at f.settled ∙ f.pad) (settled-records r.0 at f.settled ∙ f.records) (λ _. refl)
+
+  -- The first message of a name, whose text spells a change: what is known of the entry that it makes.
+  breaks-by : (old new : Held D) (rs : List Record) (pad : PadState) (now : ℕ) (message : Option (Session × Message)) (first : Option (Session × Sent)) (s : Session) (x : Sent) (c : Change)
+      (calls : ℕ) (image : Image) (Known : Entry → Type 0) → first ≡ option_map taken_of message → first ≡ Some (s, x) → x.change ≡ Ok c → IsNormal c → (a : IsOpenAt told_by failures stops_alone alone rs old pad)
+      → Known (Accept s x.base c now)
+      → ((y : Session × Message) → is_edit y.1.change.edit ≡ true → Known (Accept y.0 y.1.base y.1.change now) → BreaksOff told_by failures stops_alone alone a.state.records a.state.pad now (Some y) calls image new)
+      → BreaksOff told_by failures stops_alone alone rs pad now message calls image new
+  breaks-by old new rs pad now message first s x c calls image Known e h ok n a known breaks = go message (sym e ∙ h)
     where
       go : (m : Option (Session × Message)) → option_map taken_of m ≡ Some (s, x) → BreaksOff told_by failures stops_alone alone rs pad now m calls image new
       go None q = none_some q
@@ -613,15 +676,37 @@ module _ {D : Type 0} (told_by : D → Option Contents) (failures : D → ℕ) (
           ap (λ t. Accept t x.base c now) (sym session) ∙ ap (λ b. Accept y.0 b c now) (sym base) ∙ ap (λ d. Accept y.0 y.1.base d now) (sym change) in
           let edit = subst (λ (d : Change). is_edit d.edit ≡ true) (sym change) (normal-edit c n) in
           subst (λ r. BreaksOff told_by failures stops_alone alone r pad now (Some y) calls image new) a.records
-          (subst (λ w. BreaksOff told_by failures stops_alone alone a.state.records w now (Some y) calls image new) a.pad (at y edit entry alone refl))
-        where
-          at : (y : Session × Message) → is_edit y.1.change.edit ≡ true → Accept s x.base c now ≡ Accept y.0 y.1.base y.1.change now → (b : Bool) → alone ≡ b
-              → BreaksOff told_by failures stops_alone alone a.state.records a.state.pad now (Some y) calls image new
-          at y edit entry true t =
-              breaks-alone new a.state y.0 now y.1 reply calls image edit a.kept a.is_open (mark ∙ a.mark) heard
-              (subst (λ z. BrokenAlone a.state z reply calls image new) entry (sure (a.mark ∙ t)))
-          at y edit entry false t =
-              breaks-open new a.state y.0 now y.1 reply calls image edit a.kept a.is_open (mark ∙ a.mark) t (subst (λ z. Broken a.state z reply new) entry over)
+          (subst (λ w. BreaksOff told_by failures stops_alone alone a.state.records w now (Some y) calls image new) a.pad (breaks y edit (subst Known entry known)))
+
+  -- the machine was opened again behind the take
+  pub breaks-first : (old new : Held D) (rs : List Record) (pad : PadState) (now : ℕ) (message : Option (Session × Message)) (first : Option (Session × Sent)) (s : Session) (x : Sent) (c : Change)
+      (reply : Reply) (calls : ℕ) (image : Image) → first ≡ option_map taken_of message → first ≡ Some (s, x) → x.change ≡ Ok c → IsNormal c → (a : IsOpenAt told_by failures stops_alone alone rs old pad)
+      → stops_alone new.disk ≡ stops_alone old.disk → (reply ≡ Err bad.NoMemory → ⊥) → Broken a.state (Accept s x.base c now) reply new
+      → (stops_alone old.disk ≡ true → BrokenAlone a.state (Accept s x.base c now) reply calls image new) → BreaksOff told_by failures stops_alone alone rs pad now message calls image new
+  breaks-first old new rs pad now message first s x c reply calls image e h ok n a mark heard over sure =
+      breaks-by old new rs pad now message first s x c calls image (λ z. Broken a.state z reply new × (stops_alone old.disk ≡ true → BrokenAlone a.state z reply calls image new)) e h ok n a
+      (over, sure) (λ y edit known. at y edit known alone refl)
+    where
+      at : (y : Session × Message) → is_edit y.1.change.edit ≡ true
+          → Broken a.state (Accept y.0 y.1.base y.1.change now) reply new × (stops_alone old.disk ≡ true → BrokenAlone a.state (Accept y.0 y.1.base y.1.change now) reply calls image new)
+          → (b : Bool) → alone ≡ b → BreaksOff told_by failures stops_alone alone a.state.records a.state.pad now (Some y) calls image new
+      at y edit known true t = breaks-alone new a.state y.0 now y.1 reply calls image edit a.kept a.is_open (mark ∙ a.mark) heard (known.1 (a.mark ∙ t))
+      at y edit known false t = breaks-open new a.state y.0 now y.1 reply calls image edit a.kept a.is_open (mark ∙ a.mark) t known.0
+
+  -- or the journal has no room for that
+  pub breaks-full : (old new : Held D) (rs : List Record) (pad : PadState) (now : ℕ) (message : Option (Session × Message)) (first : Option (Session × Sent)) (s : Session) (x : Sent) (c : Change)
+      (n calls : ℕ) (image : Image) → first ≡ option_map taken_of message → first ≡ Some (s, x) → x.change ≡ Ok c → IsNormal c → (a : IsOpenAt told_by failures stops_alone alone rs old pad)
+      → stops_alone new.disk ≡ stops_alone old.disk → StaysFull a.state (Accept s x.base c now) n new
+      → (stops_alone old.disk ≡ true → FullAlone a.state (Accept s x.base c now) n calls image new) → BreaksOff told_by failures stops_alone alone rs pad now message calls image new
+  breaks-full old new rs pad now message first s x c n calls image e h ok normal a mark over sure =
+      breaks-by old new rs pad now message first s x c calls image (λ z. StaysFull a.state z n new × (stops_alone old.disk ≡ true → FullAlone a.state z n calls image new)) e h ok normal a
+      (over, sure) (λ y edit known. at y edit known alone refl)
+    where
+      at : (y : Session × Message) → is_edit y.1.change.edit ≡ true
+          → StaysFull a.state (Accept y.0 y.1.base y.1.change now) n new × (stops_alone old.disk ≡ true → FullAlone a.state (Accept y.0 y.1.base y.1.change now) n calls image new)
+          → (b : Bool) → alone ≡ b → BreaksOff told_by failures stops_alone alone a.state.records a.state.pad now (Some y) calls image new
+      at y edit known true t = full-alone new a.state y.0 now y.1 n calls image edit a.kept a.is_open (mark ∙ a.mark) (known.1 (a.mark ∙ t))
+      at y edit known false t = full-open new a.state y.0 now y.1 n calls image edit a.kept a.is_open (mark ∙ a.mark) t known.0
 
   -- one whose text spells none
   pub breaks-unread : (old new : Held D) (rs : List Record) (pad : PadState) (now : ℕ) (message : Option (Session × Message)) (first : Option (Session × Sent)) (s : Session) (x : Sent) (why : ReadBad)

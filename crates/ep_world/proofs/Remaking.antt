@@ -1,15 +1,13 @@
 -- Local edits of a client that can take them back, and what it takes back or makes again.
-use Rattle.std.proofs.Common.{◌≡◌, true, List, Option, Some, None, sym, ap, ◌∙◌, subst}
+use Rattle.std.proofs.Common.{◌≡◌, true, Option, Some, None, ap, ◌∙◌, subst}
 use Rattle.std.specs.Prelude.{Ok, IfSome, option_map}
 use Rattle.ep_cs.specs.Change.{Change, stamped}
 use Rattle.ep_cs.specs.Doc.{Doc, text_of}
-use Rattle.ep_cs.specs.Edit.{Edit}
 use Rattle.ep_cs.specs.EditFits.{fits, is_edit}
 use Rattle.ep_cs.specs.Fits.{Fits}
 use Rattle.ep_cs.specs.NormalRuns.{IsNormal}
 use Rattle.ep_cs.proofs.EditFits.{true_fits}
 use Rattle.ep_history.proofs.Answered.{normal-edit}
-use Rattle.ep_history.proofs.Lists.{none_some, some_same}
 use Rattle.ep_history.proofs.Sound.{fit-of}
 use Rattle.ep_schedule.specs.World.{Name}
 use Rattle.ep_event.specs.declared.event.Local.{Local}

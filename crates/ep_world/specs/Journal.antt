@@ -10,7 +10,6 @@ use Rattle.ep_history.specs.Machine.{MachineState, journal_fault}
 use Rattle.ep_history.specs.Pad.{PadState}
 use Rattle.ep_history.specs.Records.{accept_record, told as told_pad}
 use Rattle.ep_history.specs.declared.pad_bad.PadBad.{PadBad}
-use Rattle.ep_history.specs.declared.pad_bad.PadBad.TheVariants as bad
 use Rattle.ep_history.specs.declared.record.Record.{Record}
 use Rattle.ep_history.specs.declared.record.Record.TheVariants as record_of
 use Rattle.ep_schedule.specs.Headline.{next_up}
@@ -160,15 +159,6 @@ abbrev pub reads_as : List Record → PadState → Verb → Shown → Shown
 reads_as rs pad v said = reads_if v said (full_in rs pad None)
 
 -- ---- a crash
-
--- the record of the opening behind these would be too long, by itself or with them, and have so many bytes
-abbrev pub IsOpeningFull : List Record → PadState → ℕ → Type 0
-IsOpeningFull rs pad n = full_by rs pad (Some (opening pad)) ≡ Some (bad.JournalFull n)
-
--- a crash within a take for whose opening the journal has no room, behind the record of that where it is kept
-abbrev pub LacksOpening : List Record → WorldState → ℕ → Told → ℕ → Type 0
-LacksOpening rs w now (told.Stop (Some at)) n = (kept : Bool) × IsOpeningFull (behind rs (kept_record kept (record_taken w.pad now (next_up (w.actors at.name))))) w.pad n
-LacksOpening rs w now e n = ⊥
 
 -- The disk keeps the record of a take that makes so many device calls, in the image that is asked for; where the journal has
 -- room for it.

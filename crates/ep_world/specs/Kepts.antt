@@ -1,6 +1,6 @@
 -- The clients as they are kept, each with its stacks: what each does at an event. But for the stacks it is what `ep_schedule`
 -- says of the clients as they are kept there.
-use Rattle.std.specs.Prelude.{◌≡◌, ℕ, false, if◌then◌else◌, List, [], ◌∷◌, Option, Some, None}
+use Rattle.std.specs.Prelude.{ℕ, false, if◌then◌else◌, List, [], ◌∷◌, Option, Some, None}
 use Rattle.ep_units.specs.Text.{text_eq}
 use Rattle.ep_cs.specs.Edit.{Edit}
 use Rattle.ep_cs.specs.EditFits.{fits}

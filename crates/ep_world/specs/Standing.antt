@@ -26,7 +26,7 @@ use Rattle.ep_world.specs.declared.bad.WorldBad.TheVariants as world_bad
 use Rattle.ep_world.specs.Actors.{AreActors, actor_of, found}
 use Rattle.ep_world.specs.Events.{event_at, happened, kept_happened, is_known, has_text, stopped_name}
 use Rattle.ep_world.specs.declared.world.World.{World}
-use Rattle.ep_world.specs.Journal.{Decides, LacksOpening, behind, full_at, full_by, full_in, is_shut, journal_after, journal_full, record_in, unopened}
+use Rattle.ep_world.specs.Journal.{Decides, behind, full_at, full_by, full_in, is_shut, journal_after, journal_full, record_in, unopened}
 use Rattle.ep_world.specs.Shows.{shows}
 
 -- ---- runs
@@ -162,11 +162,11 @@ Said alone (told.Stop (Some at)) p = alone ≡ true → p
 Said alone e p = p
 
 -- Why an event ends a world, by the counts of its disk's faults before and behind it: the store failed, and its count rose
--- to this; or the journal has no room for the opening that follows a crash; or memory is wanting.
-abbrev pub IsEnded : Bool → List Record → WorldState → ℕ → Told → ℕ → ℕ → WorldBad → Type 0
-IsEnded alone rs w now e before after (world_bad.Store n) = Said alone e (HasRisenTo before after n)
-IsEnded alone rs w now e before after (world_bad.Full n) = Said alone e (LacksOpening rs w now e n)
-IsEnded alone rs w now e before after b = Unit {0}
+-- to this; or memory is wanting. A journal without room ends none.
+abbrev pub IsEnded : Bool → Told → ℕ → ℕ → WorldBad → Type 0
+IsEnded alone e before after (world_bad.Store n) = Said alone e (HasRisenTo before after n)
+IsEnded alone e before after (world_bad.Full n) = ⊥
+IsEnded alone e before after b = Unit {0}
 
 -- why no world begins on a disk: the disk, when it was dropped, had failed, and its count had risen to this; or the journal,
 -- where nothing was left on the disk, has no room for the first opening; or memory is wanting
@@ -182,4 +182,4 @@ module _ {D : Type 0} (told_by : D → Option Contents) (failures : D → ℕ) (
   abbrev pub Ends : World D → ℕ → Told → Result Shown WorldBad → World D → Type 0
   Ends old now e result new =
       (alone : Bool) (rs : List Record) (w : WorldState) (ks : Kepts) → IsRun w ks → StandsFor told_by failures stops_alone alone rs old w ks
-      → IfErr result (IsEnded alone rs w now e (failures old.machine.disk) (failures new.machine.disk))
+      → IfErr result (IsEnded alone e (failures old.machine.disk) (failures new.machine.disk))

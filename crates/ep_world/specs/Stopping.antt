@@ -22,7 +22,7 @@ use Rattle.ep_history.specs.declared.pad_bad.PadBad.{PadBad}
 use Rattle.ep_history.specs.declared.pad_bad.PadBad.TheVariants as bad
 use Rattle.ep_event.specs.declared.shown.Shown.{Shown}
 use Rattle.ep_event.specs.declared.shown.Verb.TheVariants as verb
-use Rattle.ep_world.specs.Journal.{IsOpeningFull, behind, full_in, kept_record, keeps_record, record_taken, unopened}
+use Rattle.ep_world.specs.Journal.{behind, full_in, kept_record, keeps_record, record_taken, unopened}
 use Rattle.ep_world.specs.Shows.{pad_refuses, shows_opening}
 use Rattle.ep_world.specs.Standing.{IsOpenAt, IsShutAt}
 use Rattle.ep_history.specs.declared.record.Record.{Record}
@@ -73,17 +73,12 @@ taken_of x = (x.0, sent_of x.1)
 abbrev pub journal_broken : List Record → PadState → ℕ → Option (Session × Message) → Bool → List Record
 journal_broken rs pad now x kept = behind rs (kept_record kept (record_taken pad now x))
 
--- a machine isn't opened again behind these records: the store failed, the journal has no room for the opening, or memory is
--- wanting
-abbrev pub IsUnopened : ℕ → ℕ → List Record → PadState → WorldBad → Type 0
-IsUnopened before after rs pad (world_bad.Store n) = HasRisenTo before after n
-IsUnopened before after rs pad (world_bad.Full n) = IsOpeningFull rs pad n
-IsUnopened before after rs pad b = Unit {0}
-
--- nor behind a take that was broken off; of a disk that fails otherwise than in a stop nothing is said
-abbrev pub BreaksNot : Bool → List Record → PadState → ℕ → Option (Session × Message) → ℕ → ℕ → WorldBad → Type 0
-BreaksNot alone rs pad now first before after b =
-    alone ≡ true → (kept : Bool) × IsUnopened before after (behind rs (kept_record kept (record_taken pad now first))) pad b
+-- a machine isn't opened again behind a take that was broken off: the store failed, of which nothing is said where the disk
+-- fails otherwise than in a stop; or memory is wanting
+abbrev pub BreaksNot : Bool → ℕ → ℕ → WorldBad → Type 0
+BreaksNot alone before after (world_bad.Store n) = alone ≡ true → HasRisenTo before after n
+BreaksNot alone before after (world_bad.Full n) = ⊥
+BreaksNot alone before after b = Unit {0}
 
 -- what is shown of an opening behind a crash, where the journal has room, or hasn't
 abbrev pub shows_start_if : Option Name → PadState → Option PadBad → Shown

@@ -1,7 +1,7 @@
 -- What a client's edits of what it sees come to, and taking them back and making them again.
 use Rattle.std.specs.Prelude.{◌≡◌, true, Option, Some, None}
-use Rattle.ep_cs.specs.Change.{Change, stamped}
-use Rattle.ep_cs.specs.Doc.{Doc, text_of}
+use Rattle.ep_cs.specs.Change.{Change}
+use Rattle.ep_cs.specs.Doc.{Doc}
 use Rattle.ep_cs.specs.Edit.{Edit}
 use Rattle.ep_cs.specs.EditFits.{fits}
 use Rattle.ep_invert.specs.declared.bad.SpliceBad.{SpliceBad}

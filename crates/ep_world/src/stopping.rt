@@ -18,7 +18,7 @@ ghost use Rattle.ep_world.specs.Stopping.{BreaksNot, BreaksOff, FindsFirst, Reop
 ghost use Rattle.ep_history.specs.declared.record.Record.{Record};
 
 use crate::actors::{Actor, Actors};
-use crate::bad::{WorldBad, failure, full, opening_failure};
+use crate::bad::{WorldBad, failure, full};
 use crate::conn::Conn;
 use crate::message::Sent;
 use crate::world::World;
@@ -94,9 +94,8 @@ fn stop_take<D: Crash>(
         → IsAt D.told D.failures D.stops_alone alone rs machine.old pad
         → IfOk result (λ _. BreaksOff D.told D.failures D.stops_alone alone rs pad now message calls image machine.new) }
     ensures failed { IfErr result IsFailure }
-    ensures counts { (alone : Bool) (rs : List Record) (pad : PadState) (message : Option (Session × Message)) → first ≡ option_map taken_of message
-        → IsAt D.told D.failures D.stops_alone alone rs machine.old pad
-        → MatchResult result (λ _. D.failures machine.old.disk ≤ D.failures machine.new.disk) (BreaksNot alone rs pad now message (D.failures machine.old.disk) (D.failures machine.new.disk)) }
+    ensures counts { (alone : Bool) (rs : List Record) (pad : PadState) → IsAt D.told D.failures D.stops_alone alone rs machine.old pad
+        → MatchResult result (λ _. D.failures machine.old.disk ≤ D.failures machine.new.disk) (BreaksNot alone (D.failures machine.old.disk) (D.failures machine.new.disk)) }
 {
     match is_shut(machine) {
         Ok(true) => Ok(()),
@@ -121,7 +120,7 @@ fn reopen<D: Crash>(machine: &mut PadMachine<D>) -> Result<(), WorldBad>
 }
 
 /// The crash comes into a take of an open pad, where there is a message, after so many device calls of it; and the machine is
-/// started again with the image that is asked for.
+/// started again with the image that is asked for. Where the journal has no room for its opening it stays closed.
 fn break_off<D: Crash>(
     machine: &mut PadMachine<D>,
     first: Option<(Session, Sent)>,
@@ -133,9 +132,8 @@ fn break_off<D: Crash>(
         → IsOpenAt D.told D.failures D.stops_alone alone rs machine.old pad
         → IfOk result (λ _. BreaksOff D.told D.failures D.stops_alone alone rs pad now message calls image machine.new) }
     ensures failed { IfErr result IsFailure }
-    ensures counts { (alone : Bool) (rs : List Record) (pad : PadState) (message : Option (Session × Message)) → first ≡ option_map taken_of message
-        → IsOpenAt D.told D.failures D.stops_alone alone rs machine.old pad
-        → MatchResult result (λ _. D.failures machine.old.disk ≤ D.failures machine.new.disk) (BreaksNot alone rs pad now message (D.failures machine.old.disk) (D.failures machine.new.disk)) }
+    ensures counts { (alone : Bool) (rs : List Record) (pad : PadState) → IsOpenAt D.told D.failures D.stops_alone alone rs machine.old pad
+        → MatchResult result (λ _. D.failures machine.old.disk ≤ D.failures machine.new.disk) (BreaksNot alone (D.failures machine.old.disk) (D.failures machine.new.disk)) }
 {
     let Some((session, sent)) = first else {
         return reopen(machine);
@@ -147,7 +145,8 @@ fn break_off<D: Crash>(
     let _normal = change.ops();
     match machine.accept_stopped(calls, image, session, base, change, now) {
         Ok(taken) => unheard(taken),
-        Err(bad) => Err(opening_failure(bad)),
+        Err(PadBad::JournalFull(_)) => Ok(()),
+        Err(bad) => Err(failure(bad)),
     }
 }
 

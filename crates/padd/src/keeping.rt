@@ -2,6 +2,7 @@
 
 use crate::missing::Missing;
 use crossbeam_channel::{Sender, bounded};
+use ep_keep_again::{AgainKeeper, Opener};
 use ep_keep_far::{Desk, FarKeeper};
 use ep_keep_sql::{FileKeeper, SqlKeeper};
 use ep_outside::Keeper;
@@ -14,8 +15,23 @@ use std::thread::{JoinHandle, Threads};
 // Read and written by the owner alone.
 const OWNER_ALONE: u32 = 0o600;
 
-/// A database that another thread has.
-pub type RealKeeper<R> = FarKeeper<R, FileKeeper>;
+/// A database that another thread has, and that is opened anew after a call of it failed.
+pub type RealKeeper<R> = FarKeeper<R, AgainKeeper<Database>>;
+
+/// The database in a server's folder.
+#[derive(Drop)]
+pub struct Database {
+    files: HostRuntime,
+    folder: String,
+}
+
+impl Opener for Database {
+    type Kept = FileKeeper;
+
+    fn open(&mut self) -> Option<FileKeeper> {
+        keeper_in(&self.files, self.folder.as_str())
+    }
+}
 
 /// Where who asks the database is handed out.
 struct Teller<R: Wait + Drop> {
@@ -47,19 +63,19 @@ fn keeper_in(files: &HostRuntime, folder: &str) -> Option<FileKeeper> {
 /// A keeper that asks the database in a server's folder, and the desk where it is asked; none where it can't be read.
 fn desk_in<R: Wait + Drop>(
     rt: R,
-    files: &HostRuntime,
-    folder: &str,
-) -> Option<(RealKeeper<R>, Desk<FileKeeper>)> {
-    let mut kept = keeper_in(files, folder)?;
+    mut database: Database,
+) -> Option<(RealKeeper<R>, Desk<AgainKeeper<Database>>)> {
+    let alloc = database.files.alloc();
+    let mut kept = database.open()?;
     if kept.get("").is_err() {
         return None;
     }
-    FarKeeper::new(rt, files.alloc(), kept).ok()
+    FarKeeper::new(rt, alloc, AgainKeeper::new(database, kept)).ok()
 }
 
 /// Opens the database of a folder, hands out who asks there, and makes the calls that come to the desk.
-fn keep<R: Wait + Copy + Drop>(rt: R, files: &HostRuntime, folder: &str, teller: Teller<R>) {
-    if let Some((keeper, mut desk)) = desk_in(rt, files, folder) {
+fn keep<R: Wait + Copy + Drop>(rt: R, database: Database, teller: Teller<R>) {
+    if let Some((keeper, mut desk)) = desk_in(rt, database) {
         let _heard = teller.tell.send(&rt, keeper);
         desk.answer_all(&rt);
     }
@@ -75,9 +91,10 @@ pub fn kept_afar<R: Threads + Wait + Copy + Send + Drop + 'static>(
 ) -> Result<(RealKeeper<R>, JoinHandle<()>), Missing> {
     let alloc = files.alloc();
     let folder = String::from_str(alloc, folder)?;
+    let database = Database { files, folder };
     let (tell, told) = bounded(alloc, 1)?;
     let teller = Teller { tell };
-    let Ok(thread) = thread::spawn(&rt, move || keep(rt, &files, folder.as_str(), teller)) else {
+    let Ok(thread) = thread::spawn(&rt, move || keep(rt, database, teller)) else {
         return Err(Missing::Thread);
     };
     match told.recv(&rt) {

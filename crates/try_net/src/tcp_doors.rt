@@ -231,7 +231,7 @@ fn the_systems_own_limits_are_read(rt: HostRuntime) -> Result<(), Fail> {
         let is_there = limits.lines().any(|line| line.starts_with(name));
         assert!(rt; is_there, "no {name}");
     }
-    let files = limits.replace("Max open files  ", "Max open files 40 ")?;
+    let files = limits.replace(rt.alloc(), "Max open files  ", "Max open files 40 ")?;
     assert!(rt; connections_under(&files) <= 10);
     Ok(())
 }

@@ -243,7 +243,11 @@ fn both_sides(rt: HostRuntime) -> Result<(), Fail> {
 }
 
 // How many milliseconds so many receives take, to which nothing comes.
-fn waits(rt: &HostRuntime, link: &mut WsLink<HostRuntime>, receives: u32) -> io::Result<u128> {
+fn waits<R: Net + RandomSource + Clock + Copy + Drop + Wait>(
+    rt: &R,
+    link: &mut WsLink<R>,
+    receives: u32,
+) -> io::Result<u128> {
     let begun = Instant::now(rt)?;
     for _ in 0..receives {
         if !matches!(link.recv(rt), LinkGot::Nothing) {

@@ -139,3 +139,27 @@ fn a_crash_with_room_and_one_without(rt: HostRuntime) {
     ];
     assert_eq!(rt; plays(rt.alloc(), 65, &rows), Ok(true));
 }
+
+#[test]
+fn a_crash_within_a_take(rt: HostRuntime) {
+    // The edit takes 55 bytes.
+    let kept = [
+        ("create ab", "create rev 0 Z:1>2+2$ab"),
+        ("login A", "login A 1.1 rev 0"),
+        ("insert A 0 x", "insert A ok"),
+        ("submit A", "submit A base 0 Z:3>1+1$x"),
+        ("crash A 4 new", "crash A refused full 120"),
+        ("take A", "take A none"),
+        ("crash", "crash refused full 120"),
+    ];
+    let lost = [
+        ("create ab", "create rev 0 Z:1>2+2$ab"),
+        ("login A", "login A 1.1 rev 0"),
+        ("insert A 0 x", "insert A ok"),
+        ("submit A", "submit A base 0 Z:3>1+1$x"),
+        ("crash A 4 new", "crash A refused full 65"),
+        ("crash", "crash refused full 65"),
+    ];
+    assert_eq!(rt; plays(rt.alloc(), 110, &kept), Ok(true));
+    assert_eq!(rt; plays(rt.alloc(), 64, &lost), Ok(true));
+}

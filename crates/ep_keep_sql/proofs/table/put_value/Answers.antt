@@ -8,7 +8,7 @@ use Rattle.ep_keep_sql.proofs.Texts.{put_text}
 use Rattle.ep_keep_sql.proofs.table.put_value.Goals as goal
 
 pub returns-clause-steps : goal.returns-clause-steps
-returns-clause-steps g c = steps_of _ _ _ _ _ c.execute.ensures.survives.clean c.execute.ensures.runs
+returns-clause-steps g c = steps_of _ _ _ _ _ c.execute.ensures.survives.clean c.execute.ensures.survives.counts c.execute.ensures.survives.closes c.execute.ensures.runs
 
 pub returns-clause-makes : goal.returns-clause-makes
 returns-clause-makes g c = λ clean inside m holds.

@@ -6,7 +6,7 @@ use Rattle.sqlite.specs.Held.{state}
 use Rattle.sqlite.specs.State.{FailsToQuery, Shown}
 use Rattle.ep_keep_sql.specs.Told.{ShowsListed}
 use Rattle.ep_keep_sql.proofs.Listings.{between_all, if_ok}
-use Rattle.ep_keep_sql.proofs.Goes.{rows_go}
+use Rattle.ep_keep_sql.proofs.Goes.{rows_go, rows_open}
 use Rattle.ep_keep_sql.proofs.Statements.{rows_rest}
 use Rattle.ep_keep_sql.proofs.Texts.{between_text, between_plain}
 use Rattle.ep_keep_sql.proofs.table.rows_between.Goals as goal
@@ -27,4 +27,7 @@ returns-clause-same g c = λ m holds settled clean open_now.
     rows_rest (λ rows. rows.items) between_text between_plain old new (value.Text c.args.prefix.now ∷ value.Text c.args.end.now ∷ []) c.query_all.result holds.schema settled ok err clean open_now
 
 pub returns-clause-goes : goal.returns-clause-goes
-returns-clause-goes g c = rows_go (λ rows. rows.items) _ _ _ _ c.query_all.result c.query_all.ensures.survives.clean c.query_all.ensures.ok c.query_all.ensures.err
+returns-clause-goes g c = rows_go (λ rows. rows.items) _ _ _ _ c.query_all.result c.query_all.ensures.survives.clean c.query_all.ensures.survives.counts c.query_all.ensures.survives.closes c.query_all.ensures.ok c.query_all.ensures.err
+
+pub returns-clause-opens : goal.returns-clause-opens
+returns-clause-opens g c = λ clean. rows_open (λ rows. rows.items) _ _ _ _ c.query_all.result (c.query_all.ensures.ok clean)

@@ -16,7 +16,7 @@ returns-in-Ok-true-clause-breaks g c = λ alone rs pad message e a.
     breaks-shut g.D.Disk.told g.D.Device.failures g.D.Disk.stops_alone alone c.is_shut.new.machine rs pad c.args.now message c.args.calls c.args.image (shuts g.D.Disk.told g.D.Device.failures g.D.Disk.stops_alone alone rs c.is_shut.new.machine pad t.1 (sym t.0))
 
 pub returns-in-Ok-true-clause-counts : goal.returns-in-Ok-true-clause-counts
-returns-in-Ok-true-clause-counts g c = λ alone rs pad message e a.
+returns-in-Ok-true-clause-counts g c = λ alone rs pad a.
     let is : c.is_shut.result ≡ Ok true = c.in-Ok-true.is ∙ ap Ok c.in-Ok-true.field-0-test in
     subst (λ r. Counts (g.D.Device.failures c.args.machine.now.disk) (g.D.Device.failures c.is_shut.new.machine.disk) r) is (c.is_shut.ensures.counts alone rs pad a)
 
@@ -27,19 +27,19 @@ returns-in-Ok-false-clause-breaks g c = λ alone rs pad message e a.
     c.break_off.ensures.breaks alone rs pad message e (opens g.D.Disk.told g.D.Device.failures g.D.Disk.stops_alone alone rs c.is_shut.new.machine pad t.1 (sym t.0))
 
 pub returns-in-Ok-false-clause-counts : goal.returns-in-Ok-false-clause-counts
-returns-in-Ok-false-clause-counts g c = λ alone rs pad message e a.
+returns-in-Ok-false-clause-counts g c = λ alone rs pad a.
     let is : c.is_shut.result ≡ Ok false = c.in-Ok-false.is ∙ ap Ok c.in-Ok-false.field-0-test in
     let t = subst (λ r. MatchResult r (λ shut. (shut ≡ is_shut rs pad) × IsAt g.D.Disk.told g.D.Device.failures g.D.Disk.stops_alone alone rs c.is_shut.new.machine pad) IsFailure) is (c.is_shut.ensures.tells alone rs pad a) in
     let before = g.D.Device.failures c.args.machine.now.disk in
     let mid = g.D.Device.failures c.is_shut.new.machine.disk in
-    breaks-from g.D.Disk.told g.D.Device.failures g.D.Disk.stops_alone alone rs pad c.args.now message before mid _ c.break_off.result (subst (λ r. Counts before mid r) is (c.is_shut.ensures.counts alone rs pad a))
-    (c.break_off.ensures.counts alone rs pad message e (opens g.D.Disk.told g.D.Device.failures g.D.Disk.stops_alone alone rs c.is_shut.new.machine pad t.1 (sym t.0)))
+    breaks-from alone before mid _ c.break_off.result (subst (λ r. Counts before mid r) is (c.is_shut.ensures.counts alone rs pad a))
+    (c.break_off.ensures.counts alone rs pad (opens g.D.Disk.told g.D.Device.failures g.D.Disk.stops_alone alone rs c.is_shut.new.machine pad t.1 (sym t.0)))
 
 pub returns-in-Err-clause-failed : goal.returns-in-Err-clause-failed
 returns-in-Err-clause-failed g c = subst (λ r. IfErr r IsFailure) c.in-Err.is c.is_shut.ensures.failed
 
 pub returns-in-Err-clause-counts : goal.returns-in-Err-clause-counts
-returns-in-Err-clause-counts g c = λ alone rs pad message e a.
+returns-in-Err-clause-counts g c = λ alone rs pad a.
     let before = g.D.Device.failures c.args.machine.now.disk in
     let now = g.D.Device.failures c.is_shut.new.machine.disk in
-    breaks-counts g.D.Disk.told g.D.Device.failures g.D.Disk.stops_alone alone {A = Bool} rs pad c.args.now message before now (Err c.in-Err.bad) (subst (λ r. Counts before now r) c.in-Err.is (c.is_shut.ensures.counts alone rs pad a))
+    breaks-counts {A = Bool} alone before now (Err c.in-Err.bad) (subst (λ r. Counts before now r) c.in-Err.is (c.is_shut.ensures.counts alone rs pad a))

@@ -1,6 +1,6 @@
 use Rattle.std.proofs.Common.{Some}
 use Rattle.sqlite.specs.Held.{state}
-use Rattle.ep_keep_sql.proofs.Keeping.{err_stays, kept_on, ok_gets, rests_turns, told_in_order}
+use Rattle.ep_keep_sql.proofs.Keeping.{answers, err_stays, kept_on, ok_gets, rests_turns, still_telling, tells_still, told_in_order}
 use Rattle.ep_keep_sql.proofs.sql_keeper.SqlKeeper.value.Goals as goal
 
 pub invariant_of-self : goal.invariant_of-self
@@ -10,6 +10,8 @@ invariant_of-self g c =
     record {
       kept = kept_on g.S.Store self.first.value self.conn c.in-Some.conn k c.in-Some.is c.value_of.ensures.goes self.kept (λ m. m) (rests_turns (state g.S.Store c.in-Some.conn) (state g.S.Store c.value_of.new.conn) c.value_of.ensures.same);
       rising = told_in_order g.S.Store self.first.value (Some k);
+      steady = self.steady;
+      telling = still_telling g.S.Store self.first.value self.conn c.value_of.new.conn self.always.value self.steady (tells_still g.S.Store self.first.value self.conn c.in-Some.conn c.value_of.new.conn c.in-Some.is c.value_of.ensures.goes self.kept (λ m. m) (rests_turns (state g.S.Store c.in-Some.conn) (state g.S.Store c.value_of.new.conn) c.value_of.ensures.same)) self.telling;
     }
 
 pub returns-in-Some-clause-value : goal.returns-in-Some-clause-value
@@ -21,3 +23,13 @@ pub returns-in-Some-clause-err : goal.returns-in-Some-clause-err
 returns-in-Some-clause-err g c =
     let self = c.args.self.now in
     err_stays g.S.Store self.first.value self.conn c.in-Some.conn c.value_of.new.conn c.in-Some.is c.value_of.ensures.goes self.kept c.value_of.result (rests_turns (state g.S.Store c.in-Some.conn) (state g.S.Store c.value_of.new.conn) c.value_of.ensures.same)
+
+pub returns-in-Some-clause-tells : goal.returns-in-Some-clause-tells
+returns-in-Some-clause-tells g c =
+    let self = c.args.self.now in
+    tells_still g.S.Store self.first.value self.conn c.in-Some.conn c.value_of.new.conn c.in-Some.is c.value_of.ensures.goes self.kept (λ m. m) (rests_turns (state g.S.Store c.in-Some.conn) (state g.S.Store c.value_of.new.conn) c.value_of.ensures.same)
+
+pub returns-in-Some-clause-answers : goal.returns-in-Some-clause-answers
+returns-in-Some-clause-answers g c =
+    let self = c.args.self.now in
+    answers g.S.Store self.first.value self.conn c.in-Some.conn c.value_of.new.conn c.in-Some.is c.value_of.ensures.goes self.kept c.value_of.result (rests_turns (state g.S.Store c.in-Some.conn) (state g.S.Store c.value_of.new.conn) c.value_of.ensures.same) c.value_of.ensures.opens

@@ -135,3 +135,23 @@ returns-in-Err-clause-full g c st n k s alone =
     ))
     (λ lacks. absurd (never-full _ n lacks.3 full))
     c.told_behind.ensures.same
+
+pub returns-in_err-wake-clause-shut : goal.returns-in_err-wake-clause-shut
+returns-in_err-wake-clause-shut g c st n k s =
+    let p = err_from_is_err_and c.from_residual.result c.from_residual.ensures.1 in
+    let w = c.in_err-wake.ensures.wakes st k s in
+    rw (p.1, p.2) (λ full. (w.0, Before w.1, w.2.0))
+
+pub returns-in-Err-clause-shut : goal.returns-in-Err-clause-shut
+returns-in-Err-clause-shut g c st n k s =
+    let w = c.in_ok-wake.ensures.wakes st k s in
+    let was = c.stop_after.ensures.stands w.0 w.2.0 in
+    let may = subst (λ t. MayHold t w.0.records w.0.pending) (sym c.stop_after.ensures.told) (c.in_ok-wake.ensures.settled w.0 w.2.0) in
+    let kept = woken-state st w.0 k w.1 (opened g.D.Disk.told g.D.Device.failures st w.0 _ w.1 w.2.0).settled in
+    let t = c.take-taken.ensures.steps c.stop_after.new.self w.0 w.0 (Was (woken-open st w.0 w.1) refl)
+    (comes-nowhere g.D.Disk.told g.D.Device.failures g.D.Disk.moment g.D.Disk.since g.D.Device.is_steady g.D.Disk.stops_alone g.D.Disk.left c.stop_after.new.self w.0 was may (λ image now. g.met.D.Disk.only_now _ image now)) in
+    let r = c.in-Err.ensures.restarts t.0 (step-kept size w.0 _ _ t.0 kept t.1) (c.stop_after-2.ensures.stands t.0 t.2.0) in
+    λ full. ⊎_elim
+    (λ same. (r.0, Behind w.0 t.0 _ w.1 t.1 (subst (λ b. Sleeps (stopped t.0) b r.0) (sym same) r.1), r.2))
+    (λ lacks. absurd (never-full _ n lacks.3 full))
+    c.told_behind.ensures.same

@@ -5,21 +5,21 @@ use Rattle.ep_pad.proofs.Crashing.{steps-over}
 use Rattle.ep_pad.proofs.Stepping.{asleep, comes-with, keeps, opened, unready}
 use Rattle.ep_pad.proofs.machine.PadMachine.set_text.Goals as goal
 
-pub returns-in_err-wake : goal.returns-in_err-wake
-returns-in_err-wake g c st k s =
+pub returns-in_err-wake-clause-steps : goal.returns-in_err-wake-clause-steps
+returns-in_err-wake-clause-steps g c st k s =
     let p = err_from_is_err_and c.from_residual.result c.from_residual.ensures.1 in
     rw (p.1, p.2) (steps-over g.D.Disk.told g.D.Device.failures g.D.Disk.moment g.D.Disk.since g.D.Device.is_steady g.D.Disk.stops_alone g.D.Disk.left st _ _ c.args.self.now _ (asleep g.D.Disk.told g.D.Device.failures g.D.Disk.moment g.D.Disk.since g.D.Device.is_steady g.D.Disk.stops_alone g.D.Disk.left st c.args.self.now _ _ _ (c.in_err-wake.ensures.wakes st k s)))
 
-pub returns-in_err-ready : goal.returns-in_err-ready
-returns-in_err-ready g c st k s =
+pub returns-in_err-ready-clause-steps : goal.returns-in_err-ready-clause-steps
+returns-in_err-ready-clause-steps g c st k s =
     let p = err_from_is_err_and c.from_residual-in_err-ready.result c.from_residual-in_err-ready.ensures.1 in
     let w = c.in_ok-wake.ensures.wakes st k s in
     let m = subst (λ m. Comes g.D.Disk.told g.D.Device.failures g.D.Disk.moment g.D.Disk.since g.D.Device.is_steady g.D.Disk.stops_alone g.D.Disk.left c.args.self.now st m w.0) (sym c.self.view_is) w.2 in
     let a = c.in_err-ready.ensures.answer w.0.pad (opened g.D.Disk.told g.D.Device.failures st w.0 _ w.1 m.0).pad in
     rw (p.1, p.2) (steps-over g.D.Disk.told g.D.Device.failures g.D.Disk.moment g.D.Disk.since g.D.Device.is_steady g.D.Disk.stops_alone g.D.Disk.left st _ _ c.args.self.now _ (unready g.D.Disk.told g.D.Device.failures g.D.Disk.moment g.D.Disk.since g.D.Device.is_steady g.D.Disk.stops_alone g.D.Disk.left st w.0 c.args.self.now _ _ _ _ w.1 m a.0 a.1))
 
-pub returns : goal.returns
-returns g c st k s =
+pub returns-clause-steps : goal.returns-clause-steps
+returns-clause-steps g c st k s =
     let w = c.in_ok-wake.ensures.wakes st k s in
     let m = subst (λ m. Comes g.D.Disk.told g.D.Device.failures g.D.Disk.moment g.D.Disk.since g.D.Device.is_steady g.D.Disk.stops_alone g.D.Disk.left c.args.self.now st m w.0) (sym c.self.view_is) w.2 in
     let a = c.in_ok-ready.ensures.answer w.0.pad (opened g.D.Disk.told g.D.Device.failures st w.0 _ w.1 m.0).pad in

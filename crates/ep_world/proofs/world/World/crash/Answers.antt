@@ -15,12 +15,12 @@ returns-clause-plays g c = λ alone rs w ks r s.
 pub returns-in_err-start_again-clause-ends : goal.returns-in_err-start_again-clause-ends
 returns-in_err-start_again-clause-ends g c = λ alone rs w ks r s.
     let b = c.in_err-start_again.field-0.0 in
-    as-err _ _ c.from_residual.result b (search rules) (caused-ends alone rs w c.args.now (told.Stop None) _ _ b (c.in_err-start_again.ensures.counts alone rs w.pad s.machine))
+    as-err _ _ c.from_residual.result b (search rules) (caused-ends alone (told.Stop None) _ _ b (c.in_err-start_again.ensures.counts alone rs w.pad s.machine))
 
 pub returns-clause-ends : goal.returns-clause-ends
 returns-clause-ends g c = λ alone rs w ks r s.
     let a = s.machine in
     let m = starts-at g.D.Disk.told g.D.Device.failures g.D.Disk.stops_alone alone c.start_again.new.machine rs w.pad (c.in_ok-start_again.ensures.starts alone rs w.pad a) in
-    counts-ends alone rs w c.args.now (told.Stop None) _ _ c.opening.result
+    counts-ends alone (told.Stop None) _ _ c.opening.result
     (counts-from (g.D.Device.failures c.args.self.now.machine.disk) (g.D.Device.failures c.start_again.new.machine.disk) _ c.opening.result (c.in_ok-start_again.ensures.counts alone rs w.pad a)
     (c.opening.ensures.counts alone m.0 (reopened w.pad) m.1))

@@ -13,14 +13,14 @@ use Rattle.ep_world.proofs.world.World.create.Goals as goal
 pub returns-in_ok-first_change-in-Ok-clause-plays : goal.returns-in_ok-first_change-in-Ok-clause-plays
 returns-in_ok-first_change-in-Ok-clause-plays g c = λ alone rs w ks run s.
     let t = sym c.well_formed-2.ensures ∙ c.if-not-well_formed.false in
-    let a = answered g.D.Disk.told g.D.Device.failures g.D.Disk.stops_alone alone rs c.args.self.now.machine c.create.new.self w.pad (Create c.args.text.now c.args.now) (replied BirthAnswer c.create.result) s.machine (λ st k x. let y = c.create.ensures st k x in (y.0, y.1, y.2, y.4.alone)) in
+    let a = answered g.D.Disk.told g.D.Device.failures g.D.Disk.stops_alone alone rs c.args.self.now.machine c.create.new.self w.pad (Create c.args.text.now c.args.now) (replied BirthAnswer c.create.result) s.machine (λ st k x. let y = c.create.ensures.steps st k x in (y.0, y.1, y.2, y.4.alone)) in
     created g.D.Disk.told g.D.Device.failures g.D.Disk.stops_alone alone rs c.args.self.now _ w ks c.args.now c.args.text.now _ c.in_ok-first_change-in-Ok.field-0 (c.in_ok-first_change-in-Ok.ensures c.args.now) t s
     (subst (λ r. IsAnswered g.D.Disk.told g.D.Device.failures g.D.Disk.stops_alone alone rs c.args.self.now.machine w.pad (Create c.args.text.now c.args.now) (replied BirthAnswer r) c.create.new.self) c.in-Ok.is a) refl refl
 
 pub returns-in-Err-clause-plays : goal.returns-in-Err-clause-plays
 returns-in-Err-clause-plays g c = λ alone rs w ks run s.
     let t = sym c.well_formed-2.ensures ∙ c.if-not-well_formed.false in
-    let a = answered g.D.Disk.told g.D.Device.failures g.D.Disk.stops_alone alone rs c.args.self.now.machine c.create.new.self w.pad (Create c.args.text.now c.args.now) (replied BirthAnswer c.create.result) s.machine (λ st k x. let y = c.create.ensures st k x in (y.0, y.1, y.2, y.4.alone)) in
+    let a = answered g.D.Disk.told g.D.Device.failures g.D.Disk.stops_alone alone rs c.args.self.now.machine c.create.new.self w.pad (Create c.args.text.now c.args.now) (replied BirthAnswer c.create.result) s.machine (λ st k x. let y = c.create.ensures.steps st k x in (y.0, y.1, y.2, y.4.alone)) in
     rw c.refused.ensures
     (create-refused g.D.Disk.told g.D.Device.failures g.D.Disk.stops_alone alone rs c.args.self.now _ w ks c.args.now c.args.text.now c.in-Err.bad t s
     (subst (λ r. IsAnswered g.D.Disk.told g.D.Device.failures g.D.Disk.stops_alone alone rs c.args.self.now.machine w.pad (Create c.args.text.now c.args.now) (replied BirthAnswer r) c.create.new.self) c.in-Err.is a) refl refl)
@@ -28,6 +28,6 @@ returns-in-Err-clause-plays g c = λ alone rs w ks run s.
 pub returns-in-Err-clause-ends : goal.returns-in-Err-clause-ends
 returns-in-Err-clause-ends g c = λ alone rs w ks run s.
     rw c.refused.ensures
-    (refused-ends alone rs w c.args.now (told.Create c.args.text.now) _ _ verb.Create None c.in-Err.bad
+    (refused-ends alone (told.Create c.args.text.now) _ _ verb.Create None c.in-Err.bad
     (err-counts g.D.Disk.told g.D.Device.failures g.D.Disk.stops_alone alone rs c.args.self.now.machine c.create.new.self w.pad (Create c.args.text.now c.args.now) BirthAnswer c.create.result c.in-Err.bad s.machine
-    (λ st k x. let y = c.create.ensures st k x in (y.0, y.1, y.2, y.4.alone)) c.in-Err.is))
+    (λ st k x. let y = c.create.ensures.steps st k x in (y.0, y.1, y.2, y.4.alone)) c.in-Err.is))

@@ -23,4 +23,4 @@ returns-clause-plays g c = λ now alone rs w ks r s.
 pub returns-in_err-bad-clause-ends : goal.returns-in_err-bad-clause-ends
 returns-in_err-bad-clause-ends g c = λ now alone rs w ks run s.
     let b = c.in_err-bad.field-0.0 in
-    as-err _ _ c.from_residual.result b (search rules) (caused-ends alone rs w now (told.Edit c.args.name c.args.edit.now) _ _ b (memory-caused _ _ b c.in_err-bad.ensures.failed))
+    as-err _ _ c.from_residual.result b (search rules) (caused-ends alone (told.Edit c.args.name c.args.edit.now) _ _ b (memory-caused _ _ b c.in_err-bad.ensures.failed))

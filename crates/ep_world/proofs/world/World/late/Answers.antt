@@ -46,7 +46,7 @@ returns-clause-plays g c = λ alone rs w ks run s.
 
 pub returns-in-Err-clause-ends : goal.returns-in-Err-clause-ends
 returns-in-Err-clause-ends g c = λ alone rs w ks run s.
-    caused-ends alone rs w c.args.now (told.Late c.args.name) _ _ c.in-Err.bad
+    caused-ends alone (told.Late c.args.name) _ _ c.in-Err.bad
     (subst (λ r. Counts (g.D.Device.failures c.args.self.now.machine.disk) (g.D.Device.failures c.bring.new.machine.disk) r) c.in-Err.is (c.bring.ensures.counts alone rs w.pad s.machine))
 
 pub returns-clause-ends : goal.returns-clause-ends
@@ -56,4 +56,4 @@ returns-clause-ends g c = λ alone rs w ks run s.
 pub returns-in_err-member-clause-ends : goal.returns-in_err-member-clause-ends
 returns-in_err-member-clause-ends g c = λ alone rs w ks run s.
     let b = c.in_err-member.field-0.0 in
-    as-err _ _ c.from_residual.result b (search rules) (caused-ends alone rs w c.args.now (told.Late c.args.name) _ _ b (memory-caused _ _ b c.in_err-member.ensures.failed))
+    as-err _ _ c.from_residual.result b (search rules) (caused-ends alone (told.Late c.args.name) _ _ b (memory-caused _ _ b c.in_err-member.ensures.failed))

@@ -19,7 +19,7 @@ returns-in-Ok-clause-plays g c = λ alone rs w ks run s.
     let old = c.args.self.now in
     let new : World g.row.D.Denot = record { alloc = old.alloc; id = old.id; machine = c.login.new.self; actors = c.start.new.actors } in
     let i = sym (guest-known (w.actors c.args.name) (ks c.args.name)) ∙ ap is_a_guest (sym (s.actors c.args.name)) ∙ sym c.is_guest.ensures ∙ c.if-is_guest.false in
-    let a = answered g.D.Disk.told g.D.Device.failures g.D.Disk.stops_alone alone rs old.machine new.machine w.pad (Login c.in_ok-grant.grant c.args.now) (replied (λ x. LoginAnswer (welcome_of x)) c.login.result) s.machine (λ st k x. let y = c.login.ensures st k x in (y.0, y.1, y.2, y.4.alone)) in
+    let a = answered g.D.Disk.told g.D.Device.failures g.D.Disk.stops_alone alone rs old.machine new.machine w.pad (Login c.in_ok-grant.grant c.args.now) (replied (λ x. LoginAnswer (welcome_of x)) c.login.result) s.machine (λ st k x. let y = c.login.ensures.steps st k x in (y.0, y.1, y.2, y.4.alone)) in
     let b = subst (λ y. IsAnswered g.D.Disk.told g.D.Device.failures g.D.Disk.stops_alone alone rs old.machine w.pad (Login y c.args.now) (replied (λ x. LoginAnswer (welcome_of x)) c.login.result) new.machine) (c.in_ok-grant.ensures w s.id) a in
     rw c.in_ok-start-in-Ok.ensures.shown
     ((logged-in g.D.Disk.told g.D.Device.failures g.D.Disk.stops_alone alone rs old new w ks c.args.now c.args.name c.in-Ok.welcome i s
@@ -30,7 +30,7 @@ returns-clause-plays g c = λ alone rs w ks run s.
     let old = c.args.self.now in
     let new : World g.row.D.Denot = record { alloc = old.alloc; id = old.id; machine = c.login.new.self; actors = old.actors } in
     let i = sym (guest-known (w.actors c.args.name) (ks c.args.name)) ∙ ap is_a_guest (sym (s.actors c.args.name)) ∙ sym c.is_guest.ensures ∙ c.if-is_guest.false in
-    let a = answered g.D.Disk.told g.D.Device.failures g.D.Disk.stops_alone alone rs old.machine new.machine w.pad (Login c.in_ok-grant.grant c.args.now) (replied (λ x. LoginAnswer (welcome_of x)) c.login.result) s.machine (λ st k x. let y = c.login.ensures st k x in (y.0, y.1, y.2, y.4.alone)) in
+    let a = answered g.D.Disk.told g.D.Device.failures g.D.Disk.stops_alone alone rs old.machine new.machine w.pad (Login c.in_ok-grant.grant c.args.now) (replied (λ x. LoginAnswer (welcome_of x)) c.login.result) s.machine (λ st k x. let y = c.login.ensures.steps st k x in (y.0, y.1, y.2, y.4.alone)) in
     let b = subst (λ y. IsAnswered g.D.Disk.told g.D.Device.failures g.D.Disk.stops_alone alone rs old.machine w.pad (Login y c.args.now) (replied (λ x. LoginAnswer (welcome_of x)) c.login.result) new.machine) (c.in_ok-grant.ensures w s.id) a in
     rw c.refused.ensures
     ((login-refused g.D.Disk.told g.D.Device.failures g.D.Disk.stops_alone alone rs old new w ks c.args.now c.args.name c.in-Err.bad i s
@@ -39,6 +39,6 @@ returns-clause-plays g c = λ alone rs w ks run s.
 pub returns-clause-ends : goal.returns-clause-ends
 returns-clause-ends g c = λ alone rs w ks run s.
     rw c.refused.ensures
-    (refused-ends alone rs w c.args.now (told.Login c.args.name) _ _ verb.Login (Some c.args.name) c.in-Err.bad
+    (refused-ends alone (told.Login c.args.name) _ _ verb.Login (Some c.args.name) c.in-Err.bad
     (err-counts g.D.Disk.told g.D.Device.failures g.D.Disk.stops_alone alone rs c.args.self.now.machine c.login.new.self w.pad (Login c.in_ok-grant.grant c.args.now) (λ x. LoginAnswer (welcome_of x)) c.login.result c.in-Err.bad s.machine
-    (λ st k x. let y = c.login.ensures st k x in (y.0, y.1, y.2, y.4.alone)) c.in-Err.is))
+    (λ st k x. let y = c.login.ensures.steps st k x in (y.0, y.1, y.2, y.4.alone)) c.in-Err.is))

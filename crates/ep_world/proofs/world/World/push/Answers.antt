@@ -20,4 +20,4 @@ returns-clause-plays g c = λ now alone rs w ks r s.
 pub returns-in_err-pushed-clause-ends : goal.returns-in_err-pushed-clause-ends
 returns-in_err-pushed-clause-ends g c = λ now alone rs w ks run s.
     let b = c.in_err-pushed.field-0.0 in
-    as-err _ _ c.from_residual.result b (search rules) (caused-ends alone rs w now (told.Push c.args.name) _ _ b (c.in_err-pushed.ensures.counts alone rs w.pad s.machine))
+    as-err _ _ c.from_residual.result b (search rules) (caused-ends alone (told.Push c.args.name) _ _ b (c.in_err-pushed.ensures.counts alone rs w.pad s.machine))

@@ -19,4 +19,4 @@ returns-clause-plays g c = λ now alone rs w ks r s.
 pub returns-in_err-remake-clause-ends : goal.returns-in_err-remake-clause-ends
 returns-in_err-remake-clause-ends g c = λ now alone rs w ks run s.
     let b = c.in_err-remake.field-0.0 in
-    as-err _ _ c.from_residual.result b (search rules) (caused-ends alone rs w now (remake_event c.args.remake c.args.name) _ _ b (memory-caused _ _ b c.in_err-remake.ensures.failed))
+    as-err _ _ c.from_residual.result b (search rules) (caused-ends alone (remake_event c.args.remake c.args.name) _ _ b (memory-caused _ _ b c.in_err-remake.ensures.failed))

@@ -38,11 +38,11 @@ returns-clause-plays g c = λ alone rs w ks r s.
 pub returns-clause-ends : goal.returns-clause-ends
 returns-clause-ends g c = λ alone rs w ks run s.
     rw c.refused.ensures
-    (refused-ends alone rs w c.args.now (told.Resume c.args.name) _ _ verb.Resume (Some c.args.name) c.in-Err.bad
+    (refused-ends alone (told.Resume c.args.name) _ _ verb.Resume (Some c.args.name) c.in-Err.bad
     (err-counts g.D.Disk.told g.D.Device.failures g.D.Disk.stops_alone alone rs c.args.self.now.machine c.resume.new.self w.pad (Resume c.in_ok-grant.grant c.rev.result (Some c.lose.new.self.birth) None c.args.now) (λ x. ResumeAnswer (catch_up_of x)) c.resume.result c.in-Err.bad s.machine
     (λ st k x. let y = c.resume.ensures st k x in (y.0, y.1, y.2, y.4.alone)) c.in-Err.is))
 
 pub returns-in_err-member-clause-ends : goal.returns-in_err-member-clause-ends
 returns-in_err-member-clause-ends g c = λ alone rs w ks run s.
     let b = c.in_err-member.field-0.0 in
-    as-err _ _ c.from_residual.result b (search rules) (caused-ends alone rs w c.args.now (told.Resume c.args.name) _ _ b (memory-caused _ _ b c.in_err-member.ensures.failed))
+    as-err _ _ c.from_residual.result b (search rules) (caused-ends alone (told.Resume c.args.name) _ _ b (memory-caused _ _ b c.in_err-member.ensures.failed))

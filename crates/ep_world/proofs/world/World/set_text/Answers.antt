@@ -14,14 +14,14 @@ use Rattle.ep_world.proofs.world.World.set_text.Goals as goal
 pub returns-in-Ok-clause-plays : goal.returns-in-Ok-clause-plays
 returns-in-Ok-clause-plays g c = λ alone rs w ks run s.
     let t = sym c.well_formed-2.ensures ∙ c.if-not-well_formed.false in
-    let a = answered g.D.Disk.told g.D.Device.failures g.D.Disk.stops_alone alone rs c.args.self.now.machine c.set_text.new.self w.pad (SetText c.args.text.now c.args.now) (replied (λ x. CommitAnswer (told_by x)) c.set_text.result) s.machine (λ st k x. let y = c.set_text.ensures st k x in (y.0, y.1, y.2, y.4.alone)) in
+    let a = answered g.D.Disk.told g.D.Device.failures g.D.Disk.stops_alone alone rs c.args.self.now.machine c.set_text.new.self w.pad (SetText c.args.text.now c.args.now) (replied (λ x. CommitAnswer (told_by x)) c.set_text.result) s.machine (λ st k x. let y = c.set_text.ensures.steps st k x in (y.0, y.1, y.2, y.4.alone)) in
     text-set g.D.Disk.told g.D.Device.failures g.D.Disk.stops_alone alone rs c.args.self.now _ w ks c.args.now c.args.text.now _ t s
     (subst (λ r. IsAnswered g.D.Disk.told g.D.Device.failures g.D.Disk.stops_alone alone rs c.args.self.now.machine w.pad (SetText c.args.text.now c.args.now) (replied (λ x. CommitAnswer (told_by x)) r) c.set_text.new.self) c.in-Ok.is a) refl refl
 
 pub returns-in-Err-clause-plays : goal.returns-in-Err-clause-plays
 returns-in-Err-clause-plays g c = λ alone rs w ks run s.
     let t = sym c.well_formed-2.ensures ∙ c.if-not-well_formed.false in
-    let a = answered g.D.Disk.told g.D.Device.failures g.D.Disk.stops_alone alone rs c.args.self.now.machine c.set_text.new.self w.pad (SetText c.args.text.now c.args.now) (replied (λ x. CommitAnswer (told_by x)) c.set_text.result) s.machine (λ st k x. let y = c.set_text.ensures st k x in (y.0, y.1, y.2, y.4.alone)) in
+    let a = answered g.D.Disk.told g.D.Device.failures g.D.Disk.stops_alone alone rs c.args.self.now.machine c.set_text.new.self w.pad (SetText c.args.text.now c.args.now) (replied (λ x. CommitAnswer (told_by x)) c.set_text.result) s.machine (λ st k x. let y = c.set_text.ensures.steps st k x in (y.0, y.1, y.2, y.4.alone)) in
     rw c.refused.ensures
     (set-refused g.D.Disk.told g.D.Device.failures g.D.Disk.stops_alone alone rs c.args.self.now _ w ks c.args.now c.args.text.now c.in-Err.bad t s
     (subst (λ r. IsAnswered g.D.Disk.told g.D.Device.failures g.D.Disk.stops_alone alone rs c.args.self.now.machine w.pad (SetText c.args.text.now c.args.now) (replied (λ x. CommitAnswer (told_by x)) r) c.set_text.new.self) c.in-Err.is a) refl refl)
@@ -29,6 +29,6 @@ returns-in-Err-clause-plays g c = λ alone rs w ks run s.
 pub returns-in-Err-clause-ends : goal.returns-in-Err-clause-ends
 returns-in-Err-clause-ends g c = λ alone rs w ks run s.
     rw c.refused.ensures
-    (refused-ends alone rs w c.args.now (told.SetText c.args.text.now) _ _ verb.Set None c.in-Err.bad
+    (refused-ends alone (told.SetText c.args.text.now) _ _ verb.Set None c.in-Err.bad
     (err-counts g.D.Disk.told g.D.Device.failures g.D.Disk.stops_alone alone rs c.args.self.now.machine c.set_text.new.self w.pad (SetText c.args.text.now c.args.now) (λ x. CommitAnswer (told_by x)) c.set_text.result c.in-Err.bad s.machine
-    (λ st k x. let y = c.set_text.ensures st k x in (y.0, y.1, y.2, y.4.alone)) c.in-Err.is))
+    (λ st k x. let y = c.set_text.ensures.steps st k x in (y.0, y.1, y.2, y.4.alone)) c.in-Err.is))

@@ -20,14 +20,13 @@ pub returns-in_err-first-clause-ends : goal.returns-in_err-first-clause-ends
 returns-in_err-first-clause-ends g c = λ alone rs w ks r s.
     let b = c.in_err-first.field-0.0 in
     as-err _ _ c.from_residual.result b (search rules)
-    (first-ends g.D.Disk.told g.D.Device.failures g.D.Disk.stops_alone alone rs w c.args.now c.args.at _ _ c.args.self.now.actors c.first_sent.new.actors b c.in_err-first.ensures)
+    (first-ends g.D.Disk.told g.D.Device.failures g.D.Disk.stops_alone alone c.args.at _ _ c.args.self.now.actors c.first_sent.new.actors b c.in_err-first.ensures)
 
 pub returns-in_err-stop_take-clause-ends : goal.returns-in_err-stop_take-clause-ends
 returns-in_err-stop_take-clause-ends g c = λ alone rs w ks r s.
-    let first = first-of g.D.Disk.told g.D.Device.failures g.D.Disk.stops_alone alone rs c.args.self.now w ks c.args.at.name c.in_ok-first.first c.first_sent.new.actors s c.in_ok-first.ensures in
     let b = c.in_err-stop_take.field-0.0 in
     as-err _ _ c.from_residual-in_err-stop_take.result b (search rules)
-    (stop-ends g.D.Disk.told g.D.Device.failures g.D.Disk.stops_alone alone rs w c.args.now c.args.at _ _ b (c.in_err-stop_take.ensures.counts alone rs w.pad (next_up (w.actors c.args.at.name)) first s.machine))
+    (stop-ends g.D.Disk.told g.D.Device.failures g.D.Disk.stops_alone alone c.args.at _ _ b (c.in_err-stop_take.ensures.counts alone rs w.pad s.machine))
 
 pub returns-clause-ends : goal.returns-clause-ends
 returns-clause-ends g c = λ alone rs w ks r s.
@@ -35,6 +34,6 @@ returns-clause-ends g c = λ alone rs w ks r s.
     let first = first-of g.D.Disk.told g.D.Device.failures g.D.Disk.stops_alone alone rs c.args.self.now w ks c.args.at.name c.in_ok-first.first c.first_sent.new.actors s c.in_ok-first.ensures in
     let off = c.in_ok-stop_take.ensures.breaks alone rs w.pad message first s.machine in
     let m = starts-at g.D.Disk.told g.D.Device.failures g.D.Disk.stops_alone alone c.stop_take.new.machine (journal_broken rs w.pad c.args.now message off.0) (broken_by w.pad c.args.now message off.0) off.1 in
-    counts-ends alone rs w c.args.now (told.Stop (Some c.args.at)) _ _ c.opening.result
+    counts-ends alone (told.Stop (Some c.args.at)) _ _ c.opening.result
     (counts-from (g.D.Device.failures c.args.self.now.machine.disk) (g.D.Device.failures c.stop_take.new.machine.disk) _ c.opening.result
-    (c.in_ok-stop_take.ensures.counts alone rs w.pad message first s.machine) (c.opening.ensures.counts alone m.0 (reopened (broken_by w.pad c.args.now message off.0)) m.1))
+    (c.in_ok-stop_take.ensures.counts alone rs w.pad s.machine) (c.opening.ensures.counts alone m.0 (reopened (broken_by w.pad c.args.now message off.0)) m.1))

@@ -27,12 +27,12 @@ pub returns-in-Some-Guest-clause-ends : goal.returns-in-Some-Guest-clause-ends
 returns-in-Some-Guest-clause-ends g c = λ alone rs w ks run s.
     let f = sym c.take.ensures.actor ∙ c.in-Some-Guest.is ∙ ap Some c.in-Some-Guest.field-0-is in
     let a = is-guest (w.actors c.args.name) (ks c.args.name) c.in-Some-Guest.conn (sym (s.actors c.args.name) ∙ f) in
-    counts-ends alone rs w c.args.now (told.Take c.args.name) _ _ c.take_of_guest.result
+    counts-ends alone (told.Take c.args.name) _ _ c.take_of_guest.result
     (c.take_of_guest.ensures.counts alone rs w ks a.0 a.1 a.2 (lent g.D.Disk.told g.D.Device.failures g.D.Disk.stops_alone alone rs c.args.self.now _ c.args.name w ks s s.machine refl c.take.ensures.others))
 
 pub returns-in-Some-Named-clause-ends : goal.returns-in-Some-Named-clause-ends
 returns-in-Some-Named-clause-ends g c = λ alone rs w ks run s.
     let f = sym c.take.ensures.actor ∙ c.in-Some-Named.is ∙ ap Some c.in-Some-Named.field-0-is in
     let a = is-named (w.actors c.args.name) (ks c.args.name) c.in-Some-Named.member (sym (s.actors c.args.name) ∙ f) in
-    counts-ends alone rs w c.args.now (told.Take c.args.name) _ _ c.take_of_member.result
+    counts-ends alone (told.Take c.args.name) _ _ c.take_of_member.result
     (c.take_of_member.ensures.counts alone rs w ks a.0 a.1 a.2 (lent g.D.Disk.told g.D.Device.failures g.D.Disk.stops_alone alone rs c.args.self.now _ c.args.name w ks s s.machine refl c.take.ensures.others))

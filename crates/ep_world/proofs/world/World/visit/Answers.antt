@@ -18,7 +18,7 @@ returns-in-Ok-clause-plays g c = λ alone rs w ks run s.
     let old = c.args.self.now in
     let new : World g.row.D.Denot = record { alloc = old.alloc; id = old.id; machine = c.login.new.self; actors = c.receive.new.actors } in
     let i = sym (client-known (w.actors c.args.name) (ks c.args.name)) ∙ ap is_a_client (sym (s.actors c.args.name)) ∙ sym c.is_client.ensures ∙ c.if-is_client.false in
-    let a = answered g.D.Disk.told g.D.Device.failures g.D.Disk.stops_alone alone rs old.machine new.machine w.pad (Login c.in_ok-grant.grant c.args.now) (replied (λ x. LoginAnswer (welcome_of x)) c.login.result) s.machine (λ st k x. let y = c.login.ensures st k x in (y.0, y.1, y.2, y.4.alone)) in
+    let a = answered g.D.Disk.told g.D.Device.failures g.D.Disk.stops_alone alone rs old.machine new.machine w.pad (Login c.in_ok-grant.grant c.args.now) (replied (λ x. LoginAnswer (welcome_of x)) c.login.result) s.machine (λ st k x. let y = c.login.ensures.steps st k x in (y.0, y.1, y.2, y.4.alone)) in
     let b = subst (λ y. IsAnswered g.D.Disk.told g.D.Device.failures g.D.Disk.stops_alone alone rs old.machine w.pad (Login y c.args.now) (replied (λ x. LoginAnswer (welcome_of x)) c.login.result) new.machine) (c.in_ok-grant.ensures w s.id) a in
     rw c.in_ok-receive-in-Ok.ensures.shown
     (rw c.visit_verb-verb.ensures (visited g.D.Disk.told g.D.Device.failures g.D.Disk.stops_alone alone rs old new w ks c.args.now c.args.name c.args.read_only c.in-Ok.welcome i s
@@ -29,7 +29,7 @@ returns-clause-plays g c = λ alone rs w ks run s.
     let old = c.args.self.now in
     let new : World g.row.D.Denot = record { alloc = old.alloc; id = old.id; machine = c.login.new.self; actors = old.actors } in
     let i = sym (client-known (w.actors c.args.name) (ks c.args.name)) ∙ ap is_a_client (sym (s.actors c.args.name)) ∙ sym c.is_client.ensures ∙ c.if-is_client.false in
-    let a = answered g.D.Disk.told g.D.Device.failures g.D.Disk.stops_alone alone rs old.machine new.machine w.pad (Login c.in_ok-grant.grant c.args.now) (replied (λ x. LoginAnswer (welcome_of x)) c.login.result) s.machine (λ st k x. let y = c.login.ensures st k x in (y.0, y.1, y.2, y.4.alone)) in
+    let a = answered g.D.Disk.told g.D.Device.failures g.D.Disk.stops_alone alone rs old.machine new.machine w.pad (Login c.in_ok-grant.grant c.args.now) (replied (λ x. LoginAnswer (welcome_of x)) c.login.result) s.machine (λ st k x. let y = c.login.ensures.steps st k x in (y.0, y.1, y.2, y.4.alone)) in
     let b = subst (λ y. IsAnswered g.D.Disk.told g.D.Device.failures g.D.Disk.stops_alone alone rs old.machine w.pad (Login y c.args.now) (replied (λ x. LoginAnswer (welcome_of x)) c.login.result) new.machine) (c.in_ok-grant.ensures w s.id) a in
     rw c.refused.ensures
     (rw c.visit_verb-verb.ensures (visit-refused g.D.Disk.told g.D.Device.failures g.D.Disk.stops_alone alone rs old new w ks c.args.now c.args.name c.args.read_only c.in-Err.bad i s
@@ -38,6 +38,6 @@ returns-clause-plays g c = λ alone rs w ks run s.
 pub returns-clause-ends : goal.returns-clause-ends
 returns-clause-ends g c = λ alone rs w ks run s.
     rw c.refused.ensures
-    (refused-ends alone rs w c.args.now (told.Guest c.args.name c.args.read_only) _ _ _ (Some c.args.name) c.in-Err.bad
+    (refused-ends alone (told.Guest c.args.name c.args.read_only) _ _ _ (Some c.args.name) c.in-Err.bad
     (err-counts g.D.Disk.told g.D.Device.failures g.D.Disk.stops_alone alone rs c.args.self.now.machine c.login.new.self w.pad (Login c.in_ok-grant.grant c.args.now) (λ x. LoginAnswer (welcome_of x)) c.login.result c.in-Err.bad s.machine
-    (λ st k x. let y = c.login.ensures st k x in (y.0, y.1, y.2, y.4.alone)) c.in-Err.is))
+    (λ st k x. let y = c.login.ensures.steps st k x in (y.0, y.1, y.2, y.4.alone)) c.in-Err.is))

@@ -1,0 +1,4 @@
+pub mod NewFile
+pub mod Gated
+pub mod Telling
+pub mod Empty
