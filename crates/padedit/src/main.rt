@@ -1,0 +1,86 @@
+//! `padedit`, an editor of one pad for whoever shows its text: JSON Lines in, JSON Lines out, one reply to each request. It
+//! opens no socket. Who runs it gives it each message that came, and sends what it says.
+#![tactic(auto)]
+
+mod answer;
+mod asked;
+mod lines;
+mod members;
+mod refusal;
+mod reply;
+mod words;
+
+use crate::answer::answer;
+use crate::lines::{Line, Lines};
+use ep_edge::StdSource;
+use ep_editor::Editor;
+use ep_outside::{Failed, Source};
+use std::alloc::AllocError;
+use std::io;
+use std::process::ExitCode;
+
+/// Why the program ends before its input does.
+enum Stop {
+    /// Its input can't be read on.
+    Input,
+    /// What it writes isn't taken.
+    Output,
+    NoMemory,
+}
+
+impl From<Failed> for Stop {
+    fn from(_error: Failed) -> Stop {
+        Stop::Input
+    }
+}
+
+impl From<io::Error> for Stop {
+    fn from(_error: io::Error) -> Stop {
+        Stop::Output
+    }
+}
+
+impl From<AllocError> for Stop {
+    fn from(_error: AllocError) -> Stop {
+        Stop::NoMemory
+    }
+}
+
+/// Answers a line. An empty one is passed over.
+fn answer_line<R: Print + AllocGlobal>(
+    rt: &R,
+    editor: &mut Editor,
+    line: &Line,
+) -> Result<(), Stop> {
+    if line.is_empty() {
+        return Ok(());
+    }
+    let reply = answer(rt.alloc(), editor, line)?;
+    println!(rt; "{reply}")?;
+    Ok(())
+}
+
+/// Answers all lines.
+fn answer_all<R: Print + AllocGlobal, S: Source>(rt: &R, source: &mut S) -> Result<(), Stop> {
+    let mut editor = Editor::new();
+    let mut lines = Lines::new(rt.alloc());
+    for _ in 0..u64::MAX {
+        match lines.next_line(rt.alloc(), source)? {
+            Some(line) => answer_line(rt, &mut editor, &line)?,
+            None => return Ok(()),
+        }
+    }
+    Ok(())
+}
+
+fn main(rt: HostRuntime) -> ExitCode {
+    let mut source = StdSource::new(rt.reader());
+    let told = match answer_all(&rt, &mut source) {
+        Ok(()) => return ExitCode::SUCCESS,
+        Err(Stop::Input) => eprintln!(rt; "padedit: the input can't be read"),
+        Err(Stop::Output) => eprintln!(rt; "padedit: the output isn't taken"),
+        Err(Stop::NoMemory) => eprintln!(rt; "padedit: out of memory"),
+    };
+    let _told = told;
+    ExitCode::FAILURE
+}

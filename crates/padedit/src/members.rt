@@ -1,0 +1,128 @@
+//! The members of a request.
+
+use crate::refusal::{Refusal, Stopped};
+use ep_attr::{Attr, AttrMap};
+use ep_units::Units;
+use ep_wire_words::Listed;
+use serde_json::Value;
+use std::alloc::Global;
+
+/// A member of a request.
+#[derive(Clone, Copy, Debug, PartialEq, Eq)]
+pub enum Member {
+    Do,
+    Pad,
+    Token,
+    Sessions,
+    Message,
+    At,
+    Drop,
+    Put,
+    With,
+    Count,
+    Key,
+    Value,
+}
+
+impl Member {
+    pub fn name(self) -> &'static str {
+        match self {
+            Member::Do => "do",
+            Member::Pad => "pad",
+            Member::Token => "token",
+            Member::Sessions => "sessions",
+            Member::Message => "message",
+            Member::At => "at",
+            Member::Drop => "drop",
+            Member::Put => "put",
+            Member::With => "with",
+            Member::Count => "count",
+            Member::Key => "key",
+            Member::Value => "value",
+        }
+    }
+}
+
+impl From<Member> for Stopped {
+    fn from(member: Member) -> Stopped {
+        Stopped::Refused(Refusal::Shape(member))
+    }
+}
+
+pub fn text_of(request: &Value, member: Member) -> Result<&str, Stopped> {
+    Ok(
+        request
+            .get(member.name())
+            .and_then(Value::as_str)
+            .ok_or(member)?,
+    )
+}
+
+/// A number from 0 to 4,294,967,295.
+pub fn number_of(request: &Value, member: Member) -> Result<u32, Stopped> {
+    let number = request
+        .get(member.name())
+        .and_then(Value::as_u64)
+        .ok_or(member)?;
+    Ok(u32::try_from(number).map_err(|_| member)?)
+}
+
+pub fn units_of(alloc: Global, request: &Value, member: Member) -> Result<Units, Stopped> {
+    let text = text_of(request, member)?;
+    Ok(Units::from_str(alloc, text)?)
+}
+
+/// The ids of sessions, none where the member is missing.
+pub fn sessions_of(alloc: Global, request: &Value) -> Result<Listed<Units>, Stopped> {
+    let mut ids = Listed::new(alloc);
+    let Some(values) = request.get(Member::Sessions.name()) else {
+        return Ok(ids);
+    };
+    for value in values.as_array().ok_or(Member::Sessions)? {
+        let id = value.as_str().ok_or(Member::Sessions)?;
+        ids.push(Units::from_str(alloc, id)?)?;
+    }
+    Ok(ids)
+}
+
+/// The key or the value of a pair.
+fn half_of(pair: &Value, half: usize) -> Result<&str, Stopped> {
+    Ok(pair.get(half).and_then(Value::as_str).ok_or(Member::With)?)
+}
+
+/// A key and a value.
+fn attr_of(alloc: Global, pair: &Value) -> Result<Attr, Stopped> {
+    let key = half_of(pair, 0)?;
+    let value = half_of(pair, 1)?;
+    if pair.get(2).is_some() {
+        return Err(Stopped::from(Member::With));
+    }
+    attr(alloc, key, value)
+}
+
+fn attr(alloc: Global, key: &str, value: &str) -> Result<Attr, Stopped> {
+    Ok(Attr {
+        key: Units::from_str(alloc, key)?,
+        value: Units::from_str(alloc, value)?,
+    })
+}
+
+/// The map of pairs, the empty one where the member is missing.
+pub fn with_of(alloc: Global, request: &Value) -> Result<AttrMap, Stopped> {
+    let mut pairs = Vec::new(alloc);
+    let Some(values) = request.get(Member::With.name()) else {
+        return Ok(AttrMap::none(alloc));
+    };
+    for value in values.as_array().ok_or(Member::With)? {
+        pairs.push(attr_of(alloc, value)?)?;
+    }
+    Ok(AttrMap::read(alloc, &pairs)?)
+}
+
+/// The map of one key.
+pub fn attr_map_of(alloc: Global, request: &Value) -> Result<AttrMap, Stopped> {
+    let key = text_of(request, Member::Key)?;
+    let value = text_of(request, Member::Value)?;
+    let attr = attr(alloc, key, value)?;
+    Ok(AttrMap::read(alloc, &[attr])?)
+}

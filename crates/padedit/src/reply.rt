@@ -1,0 +1,145 @@
+//! Replies.
+
+use crate::refusal::Refusal;
+use ep_apply::Doc;
+use ep_cs::Change;
+use ep_csread::{for_wire, print_attribs};
+use ep_editor::{Editor, Entered, State};
+use ep_pool::Pool;
+use ep_units::{NoMemory, Units};
+use ep_wire::write_client;
+use ep_wire_words::{ClientMsg, Word};
+use serde_json::{Map, Value};
+use std::alloc::{AllocError, Global};
+
+/// A reply, which is a JSON object.
+pub struct Reply {
+    members: Map<String, Value>,
+}
+
+impl Drop for Reply {
+    fn drop(self) {
+        let Reply { members: _ } = self;
+    }
+}
+
+/// The word of a closing, as the server says it.
+fn closing(word: Word) -> &'static str {
+    match word {
+        Word::UserDup => "userdup",
+        Word::Deleted => "deleted",
+        Word::BadChangeset => "badChangeset",
+        Word::BadMessage => "badMessage",
+        Word::Deny => "deny",
+        Word::Full => "full",
+        Word::Store => "store",
+    }
+}
+
+impl Reply {
+    /// With nothing more.
+    pub fn new(alloc: Global) -> Reply {
+        Reply {
+            members: Map::new(alloc),
+        }
+    }
+
+    fn put(&mut self, alloc: Global, name: &str, value: Value) -> Result<(), AllocError> {
+        serde_json::put(&mut self.members, alloc, name, value)
+    }
+
+    fn put_word(&mut self, alloc: Global, name: &str, word: &str) -> Result<(), AllocError> {
+        let word = String::from_str(alloc, word)?;
+        self.put(alloc, name, Value::String(word))
+    }
+
+    fn put_text(&mut self, alloc: Global, name: &str, text: &Units) -> Result<(), NoMemory> {
+        let text = text.to_text_lossy(alloc)?;
+        Ok(self.put(alloc, name, Value::String(text))?)
+    }
+
+    fn put_pool(&mut self, alloc: Global, pool: &Pool) -> Result<(), NoMemory> {
+        let pool = pool.to_json(alloc)?;
+        Ok(self.put(alloc, "pool", pool)?)
+    }
+
+    fn put_attribs(&mut self, alloc: Global, doc: &Doc) -> Result<(), NoMemory> {
+        let insert = doc.as_insert(alloc)?;
+        let wire = print_attribs(alloc, &insert)?;
+        self.put_text(alloc, "attribs", &wire.text)?;
+        self.put_pool(alloc, &wire.pool)
+    }
+
+    /// A message is to be sent.
+    pub fn sends(alloc: Global, msg: &ClientMsg) -> Result<Reply, NoMemory> {
+        let text = write_client(alloc, msg)?;
+        let mut reply = Reply::new(alloc);
+        reply.put(alloc, "send", Value::String(text))?;
+        Ok(reply)
+    }
+
+    /// The view has changed so.
+    pub fn changes(alloc: Global, change: &Change) -> Result<Reply, NoMemory> {
+        let wire = for_wire(alloc, change)?;
+        let mut reply = Reply::new(alloc);
+        reply.put_text(alloc, "change", &wire.text)?;
+        reply.put_pool(alloc, &wire.pool)?;
+        Ok(reply)
+    }
+
+    /// It has changed so, by this author.
+    pub fn changes_by(alloc: Global, change: &Change, by: &Units) -> Result<Reply, NoMemory> {
+        let mut reply = Reply::changes(alloc, change)?;
+        reply.put_text(alloc, "by", by)?;
+        Ok(reply)
+    }
+
+    /// The server closed.
+    pub fn closes(alloc: Global, word: Word) -> Result<Reply, NoMemory> {
+        let mut reply = Reply::new(alloc);
+        reply.put_word(alloc, "closed", closing(word))?;
+        Ok(reply)
+    }
+
+    /// All that there is to show.
+    pub fn shows(alloc: Global, pad: &Entered) -> Result<Reply, NoMemory> {
+        let mut reply = Reply::new(alloc);
+        let doc = pad.client.view();
+        reply.put_attribs(alloc, doc)?;
+        reply.put_text(alloc, "text", &doc.text(alloc)?)?;
+        reply.put_text(alloc, "author", &pad.author)?;
+        reply.put(alloc, "readOnly", Value::Bool(pad.read_only))?;
+        Ok(reply)
+    }
+
+    pub fn refuses(alloc: Global, refusal: Refusal) -> Result<Reply, AllocError> {
+        let reason = format!(in alloc; "{refusal}")?;
+        let mut reply = Reply::new(alloc);
+        reply.put(alloc, "refused", Value::String(reason))?;
+        Ok(reply)
+    }
+
+    /// The line of the reply, with what the editor is.
+    pub fn line(mut self, alloc: Global, editor: &Editor) -> Result<String, AllocError> {
+        let state = state(alloc, editor.state())?;
+        self.put(alloc, "state", state)?;
+        let Reply { members } = self;
+        Value::Object(members).to_string(alloc)
+    }
+}
+
+/// What an editor is. Outside of a pad it has no revision.
+fn state(alloc: Global, state: Option<State>) -> Result<Value, AllocError> {
+    let mut members = Map::new(alloc);
+    let connected = match state {
+        Some(state) => {
+            serde_json::put(&mut members, alloc, "rev", Value::from(state.rev))?;
+            serde_json::put(&mut members, alloc, "unsent", Value::Bool(state.unsent))?;
+            serde_json::put(&mut members, alloc, "waiting", Value::Bool(state.waiting))?;
+            state.connected
+        }
+        None => false,
+    };
+    serde_json::put(&mut members, alloc, "connected", Value::Bool(connected))?;
+    Ok(Value::Object(members))
+}
