@@ -1,14 +1,12 @@
 -- What of a real house may cross threads.
 use denote.RattleType.{RattleType}
 use denote.Param.Send.{IsSend, IsSync, sendable}
-use denote.Param.SendFields.{declared_send, as_row_send}
-use denote.Hole.{as_row}
+use denote.Param.SendFields.{declared_send}
 use Rattle.std.specs.declared.sync.Wait as wait
 use Rattle.std.proofs.Crossing.{crosses}
 use Rattle.ep_pad.proofs.machine.PadMachine.TheSendSync as machine
 use Rattle.ep_pad_port.proofs.Crossing.{house_send, house_sync}
-use Rattle.ep_serve.proofs.work.Work.TheSendSync as work
-use Rattle.ep_serve.specs.contracts.work.Work as served
+use Rattle.ep_serve.proofs.Crossing.{serving_send}
 use Rattle.ep_real.specs.contracts.host.RealJob as real_job
 use Rattle.ep_real.specs.contracts.keeping.Teller as teller
 use Rattle.ep_real.specs.contracts.shelf.RealDisk as real_disk
@@ -33,9 +31,6 @@ teller_sends R r = declared_send (teller.the_type R) (search (sendable, crosses,
 pub starter_sends : (J : RattleType) → IsSend J → IsSend (starter.the_row J)
 starter_sends J j = search (sendable, crosses) depth 100 fits 1000000
 
-work_sends : (P L A C D E : RattleType) → IsSend P → IsSend L → IsSend A → IsSend C → IsSend D → IsSend E → IsSync P → IsSync C → IsSend (as_row (served.the_field P L A C D E))
-work_sends P L A C D E p l a c d e ps cs = as_row_send (served.the_field P L A C D E) (work.the_field_send P L A C D E p l a c d e ps cs)
-
 link_sends : (R : RattleType) → IsSend R → IsSend (ws_link.the_row R)
 link_sends R r = search (sendable, crosses) depth 100 fits 1000000
 
@@ -55,4 +50,4 @@ ear_sends : IsSend wake_ear.the_row
 ear_sends = search (sendable, crosses) depth 100 fits 1000000
 
 pub job_sends : (R A B : RattleType) (w : wait.Ghosts R.Denot) → IsSend R → IsSync R → IsSend (real_job.the_row R A B w)
-job_sends R A B w r y = declared_send (real_job.the_type R A B w) (search (work_sends, house_send, house_sync, disk_sends, shelf_sends, far_send, machine.the_send, link_sends, stream_sends, clock_sends, clock_syncs, draws_sends, ear_sends) depth 100 fits 1000000, tt)
+job_sends R A B w r y = declared_send (real_job.the_type R A B w) (search (serving_send, house_send, house_sync, disk_sends, shelf_sends, far_send, machine.the_send, link_sends, stream_sends, clock_sends, clock_syncs, draws_sends, ear_sends) depth 100 fits 1000000, tt)
