@@ -4,7 +4,7 @@ use crate::missing::Missing;
 use crossbeam_channel::{Sender, bounded};
 use ep_keep_again::{AgainKeeper, Opener};
 use ep_keep_far::{Desk, FarKeeper};
-use ep_keep_sql::{FileKeeper, SqlKeeper};
+use ep_keep_file::TableInFile;
 use ep_outside::Keeper;
 use std::fs::OpenOptions;
 use std::os::unix::fs::OpenOptionsExt;
@@ -26,9 +26,9 @@ pub struct Database {
 }
 
 impl Opener for Database {
-    type Kept = FileKeeper;
+    type Kept = TableInFile;
 
-    fn open(&mut self) -> Option<FileKeeper> {
+    fn open(&mut self) -> Option<TableInFile> {
         keeper_in(&self.files, self.folder.as_str())
     }
 }
@@ -46,7 +46,7 @@ impl<R: Wait + Drop> Drop for Teller<R> {
 
 /// The database in a server's folder, which its owner alone reads. Where it can't be opened, each call of it fails; none
 /// is there without a folder, or without memory for it.
-fn keeper_in(files: &HostRuntime, folder: &str) -> Option<FileKeeper> {
+fn keeper_in(files: &HostRuntime, folder: &str) -> Option<TableInFile> {
     if folder.is_empty() {
         return None;
     }
@@ -57,7 +57,7 @@ fn keeper_in(files: &HostRuntime, folder: &str) -> Option<FileKeeper> {
         .create(true)
         .mode(OWNER_ALONE)
         .open(files, path.as_str());
-    SqlKeeper::open(files, path.as_str()).ok()
+    TableInFile::open(files, path.as_str()).ok()
 }
 
 /// A keeper that asks the database in a server's folder, and the desk where it is asked; none where it can't be read.
