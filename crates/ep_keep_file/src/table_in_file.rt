@@ -30,13 +30,15 @@ impl TableInFile {
 }
 
 impl Device for TableInFile {
+    ghost use Rattle.std.proofs.Common.{true≢false, sym};
+
     ghost failures = { λ k. ⟦<FileKeeper as Device>⟧.failures k.keeper };
 
     ghost is_steady = { λ k. ⟦<FileKeeper as Device>⟧.is_steady k.keeper };
 
     ghost plan = { λ k. ⟦<FileKeeper as Device>⟧.plan k.keeper };
 
-    ghost never_fails = { λ k steady. ⟦<FileKeeper as Device>⟧.never_fails k.keeper steady };
+    ghost never_fails = { λ k steady. absurd (true≢false (sym steady)) };
 
     fn faults(&self) -> u64 {
         self.keeper.faults()
@@ -44,13 +46,15 @@ impl Device for TableInFile {
 }
 
 impl Keeper for TableInFile {
+    ghost use Rattle.ep_keep_sql.specs.Keeps.{always_told};
+
     ghost told = { λ k. ⟦<FileKeeper as Keeper>⟧.told k.keeper };
 
     ghost always_tells = { λ k. ⟦<FileKeeper as Keeper>⟧.always_tells k.keeper };
 
-    ghost tells = { λ k always. ⟦<FileKeeper as Keeper>⟧.tells k.keeper always };
+    ghost tells = { λ k always. always_told k.keeper.always.value _ k.keeper.telling always };
 
-    ghost in_order = { λ k. ⟦<FileKeeper as Keeper>⟧.in_order k.keeper };
+    ghost in_order = { λ k. k.keeper.rising };
 
     fn get(&mut self, key: &str) -> Result<Option<Text>, KeepBad> {
         self.keeper.get(key)
