@@ -9,7 +9,7 @@ use ep_doors::{Starter, ThreadSpawner};
 use std::net::Net;
 use std::random::RandomSource;
 use std::sync::Wait;
-use std::thread::{JoinHandle, Threads};
+use std::thread::JoinHandle;
 use std::time::Clock;
 
 /// What the words speak of, opened but for the doors; and who starts the threads of callers.
@@ -23,15 +23,15 @@ pub struct Begun<R: Wait + Net + RandomSource + Clock + Copy + Drop> {
 
 /// Opens what the words speak of. The thread that is handed back has the database; it ends once all that was begun is gone,
 /// and the jobs that it started.
-pub fn begin<R: Threads + Wait + Net + RandomSource + Clock + Copy + Send + Drop + 'static>(
-    rt: R,
-    files: HostRuntime,
+pub fn begin(
+    rt: HostRuntime,
     words: &[String],
-) -> Result<(Begun<R>, JoinHandle<()>), Missing> {
-    let spoken = spoken_by(files.alloc(), words)?;
-    let (spawner, starter) = ThreadSpawner::new(files.alloc())?;
-    let opened = Opened::by(&files, &spoken)?;
-    let (keeper, thread) = kept_afar(rt, files, spoken.folder, spoken.serves)?;
+) -> Result<(Begun<HostRuntime>, JoinHandle<()>), Missing> {
+    let alloc = rt.alloc();
+    let spoken = spoken_by(alloc, words)?;
+    let (spawner, starter) = ThreadSpawner::new(alloc)?;
+    let opened = Opened::by(&rt, &spoken)?;
+    let (keeper, thread) = kept_afar(rt, rt, spoken.folder, spoken.serves)?;
     let begun = Begun {
         opened,
         keeper,

@@ -68,29 +68,13 @@ where
 
 /// Runs the program over what was begun, and over doors. Where a person watches standard error, it shows there how far
 /// long work is.
-pub fn run_begun<R>(
-    rt: R,
+pub fn run_begun(
+    rt: HostRuntime,
     is_watched: bool,
     words: &[String],
-    begun: Begun<R>,
-    doors: &mut RealDoors<R>,
+    begun: Begun<HostRuntime>,
+    doors: &mut RealDoors<HostRuntime>,
 ) -> Result<Status, Missing>
-where
-    R: Wait
-        + Threads
-        + Net
-        + RandomSource
-        + Clock
-        + Input
-        + Print
-        + Eprint
-        + AllocGlobal
-        + Files<File = File>
-        + Copy
-        + Send
-        + Sync
-        + Drop
-        + 'static,
     ensures { IfOk result (λ status. Contains (statuses (line_in (map string_bytes words.now))) status.code) }
 {
     let Begun {
@@ -111,31 +95,10 @@ where
 }
 
 /// Runs the program over what the words speak of.
-pub fn run_words<R>(
-    rt: R,
-    files: HostRuntime,
-    is_watched: bool,
-    words: &[String],
-) -> Result<Status, Missing>
-where
-    R: Wait
-        + Threads
-        + Net
-        + RandomSource
-        + Clock
-        + Input
-        + Print
-        + Eprint
-        + AllocGlobal
-        + Files<File = File>
-        + Copy
-        + Send
-        + Sync
-        + Drop
-        + 'static,
+pub fn run_words(rt: HostRuntime, is_watched: bool, words: &[String]) -> Result<Status, Missing>
     ensures { IfOk result (λ status. Contains (statuses (line_in (map string_bytes words.now))) status.code) }
 {
-    let (begun, _thread) = begin(rt, files, words)?;
+    let (begun, _thread) = begin(rt, words)?;
     let mut doors = RealDoors::by(rt, words)?;
     run_begun(rt, is_watched, words, begun, &mut doors)
 }

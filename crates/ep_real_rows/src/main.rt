@@ -61,13 +61,13 @@ fn main(rt: HostRuntime) -> io::Result<()> {
     for turn in TURNS {
         let [_, _, _, folder, key] = turn.words;
         println!(rt; "serve {folder} {key}")?;
-        match serve(rt, rt, turn) {
+        match serve(rt, turn) {
             Ok(lines) => print!(rt; "{lines}")?,
             Err(missing) => println!(rt; "{}: {missing}", missing.status())?,
         }
     }
     println!(rt; "verify pads")?;
-    match judge(rt, rt) {
+    match judge(rt) {
         Ok(status) => println!(rt; "{}", status.code),
         Err(missing) => println!(rt; "{}: {missing}", missing.status()),
     }

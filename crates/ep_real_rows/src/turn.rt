@@ -5,14 +5,7 @@ use crate::callers::{Doorways, visit};
 use ep_real::{Begun, Missing, RealDoors, begin, run_begun, run_words};
 use ep_run::Status;
 use std::alloc::{AllocError, Global};
-use std::fs::{File, Files};
-use std::io::{Eprint, Input, Print};
-use std::net::{Net, TcpStream};
-use std::random::RandomSource;
-use std::sync::Wait;
 use std::thread;
-use std::thread::Threads;
-use std::time::Clock;
 
 /// The words of a server, and what is asked of it behind a writer.
 pub struct Turn {
@@ -30,63 +23,28 @@ pub fn words_of(alloc: Global, words: &[&str]) -> Result<Vec<String>, AllocError
 }
 
 /// Serves the callers of a turn, and answers what they were told, and the status.
-pub fn serve<R>(rt: R, files: HostRuntime, turn: &Turn) -> Result<String, Missing>
-where
-    R: Wait
-        + Threads
-        + Net<Stream = TcpStream>
-        + RandomSource
-        + Clock
-        + Input
-        + Print
-        + Eprint
-        + AllocGlobal
-        + Files<File = File>
-        + Copy
-        + Send
-        + Sync
-        + Drop
-        + 'static,
-{
+pub fn serve(rt: HostRuntime, turn: &Turn) -> Result<String, Missing> {
     let words = words_of(rt.alloc(), &turn.words)?;
-    let (begun, kept) = begin(rt, files, &words)?;
-    let lines = serve_begun(rt, files, &words, begun, turn.asks)?;
+    let (begun, kept) = begin(rt, &words)?;
+    let lines = serve_begun(rt, &words, begun, turn.asks)?;
     kept.join(&rt);
     Ok(lines)
 }
 
 // So many callers come as there are requests, and a writer.
-fn serve_begun<R>(
-    rt: R,
-    files: HostRuntime,
+fn serve_begun(
+    rt: HostRuntime,
     words: &[String],
-    begun: Begun<R>,
+    begun: Begun<HostRuntime>,
     asks: &'static [Ask],
-) -> Result<String, Missing>
-where
-    R: Wait
-        + Threads
-        + Net<Stream = TcpStream>
-        + RandomSource
-        + Clock
-        + Input
-        + Print
-        + Eprint
-        + AllocGlobal
-        + Files<File = File>
-        + Copy
-        + Send
-        + Sync
-        + Drop
-        + 'static,
-{
+) -> Result<String, Missing> {
     let mut doors = RealDoors::by(rt, words)?;
     let Some((pads, api)) = doors.addresses() else {
         return Err(Missing::Address);
     };
     doors.end_after((asks.len() as u64).saturating_add(1));
     let ways = Doorways { pads, api };
-    let Ok(callers) = thread::spawn(&rt, move || visit(rt, files, ways, asks)) else {
+    let Ok(callers) = thread::spawn(&rt, move || visit(rt, ways, asks)) else {
         return Err(Missing::Thread);
     };
     let ended = run_begun(rt, false, words, begun, &mut doors)?;
@@ -95,24 +53,7 @@ where
 }
 
 /// Judges the pads of the folder that was served.
-pub fn judge<R>(rt: R, files: HostRuntime) -> Result<Status, Missing>
-where
-    R: Wait
-        + Threads
-        + Net
-        + RandomSource
-        + Clock
-        + Input
-        + Print
-        + Eprint
-        + AllocGlobal
-        + Files<File = File>
-        + Copy
-        + Send
-        + Sync
-        + Drop
-        + 'static,
-{
+pub fn judge(rt: HostRuntime) -> Result<Status, Missing> {
     let words = words_of(rt.alloc(), &["verify", "pads", "2"])?;
-    run_words(rt, files, false, &words)
+    run_words(rt, false, &words)
 }

@@ -32,7 +32,7 @@ fn main(rt: HostRuntime) -> ExitCode {
         return ExitCode::from(7);
     };
     let is_watched = rt.stderr().is_terminal();
-    match run_words(rt, rt, is_watched, &words) {
+    match run_words(rt, is_watched, &words) {
         Ok(status) => ExitCode::from(status.code),
         Err(missing) => lacking(&rt, missing),
     }
