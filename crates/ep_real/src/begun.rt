@@ -9,34 +9,40 @@ use ep_doors::{Starter, ThreadSpawner};
 use std::net::Net;
 use std::random::RandomSource;
 use std::sync::Wait;
-use std::thread::JoinHandle;
+use std::thread::{JoinHandle, Threads};
 use std::time::Clock;
 
-/// What the words speak of, opened but for the doors; and who starts the threads of callers.
+/// What the words speak of, opened but for the doors.
 #[derive(Drop)]
 pub struct Begun<R: Wait + Net + RandomSource + Clock + Copy + Drop> {
     pub(crate) opened: Opened,
     pub(crate) keeper: RealKeeper<R>,
     pub(crate) spawner: ThreadSpawner<RealJob<R>>,
-    pub(crate) starter: Starter<RealJob<R>>,
 }
 
-/// Opens what the words speak of. The thread that is handed back has the database; it ends once all that was begun is gone,
-/// and the jobs that it started.
-pub fn begin(
-    rt: HostRuntime,
+/// What is to be done beside what was begun.
+#[derive(Drop)]
+pub struct Beside<R: Wait + Net + RandomSource + Clock + Copy + Drop> {
+    /// Who starts the threads of callers, in a thread of its own. It ends once what was begun is gone.
+    pub starter: Starter<RealJob<R>>,
+    /// The thread that has the database. It ends once all that was begun is gone, and the jobs that it started.
+    pub database: JoinHandle<()>,
+}
+
+/// Opens what the words speak of.
+pub fn begin<R: Threads + Wait + Net + RandomSource + Clock + Copy + Send + Drop + 'static>(
+    rt: R,
+    files: HostRuntime,
     words: &[String],
-) -> Result<(Begun<HostRuntime>, JoinHandle<()>), Missing> {
-    let alloc = rt.alloc();
-    let spoken = spoken_by(alloc, words)?;
-    let (spawner, starter) = ThreadSpawner::new(alloc)?;
-    let opened = Opened::by(&rt, &spoken)?;
-    let (keeper, thread) = kept_afar(rt, rt, spoken.folder, spoken.serves)?;
+) -> Result<(Begun<R>, Beside<R>), Missing> {
+    let spoken = spoken_by(files.alloc(), words)?;
+    let (spawner, starter) = ThreadSpawner::new(files.alloc())?;
+    let opened = Opened::by(&files, &spoken)?;
+    let (keeper, database) = kept_afar(rt, files, spoken.folder, spoken.serves)?;
     let begun = Begun {
         opened,
         keeper,
         spawner,
-        starter,
     };
-    Ok((begun, thread))
+    Ok((begun, Beside { starter, database }))
 }

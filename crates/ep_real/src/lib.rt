@@ -14,7 +14,8 @@ mod running;
 mod shelf;
 mod spoken;
 
-pub use begun::{Begun, begin};
+pub use begun::{Begun, Beside, begin};
 pub use doors::RealDoors;
+pub use host::RealJob;
 pub use missing::Missing;
 pub use running::{run_begun, run_words};

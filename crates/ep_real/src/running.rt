@@ -11,18 +11,18 @@ use crate::host::{RealJob, RealServer};
 use crate::missing::Missing;
 use crate::opened::judged_at;
 use crate::spoken::spoken_by;
-use ep_doors::{ThreadSpawner, start_all};
+use ep_doors::ThreadSpawner;
 use ep_edge::{StdSink, StdSource};
 use ep_run::{Status, run};
 use ep_shown::ShownShelf;
 use std::fs::{File, Files};
+use std::io;
 use std::io::{Eprint, Input, Print};
 use std::net::Net;
 use std::random::RandomSource;
 use std::sync::Wait;
 use std::thread::Threads;
 use std::time::Clock;
-use std::{io, thread};
 
 /// Runs the program over the real devices, this host and this spawner.
 fn run_over<R>(
@@ -67,38 +67,63 @@ where
 }
 
 /// Runs the program over what was begun, and over doors. Where a person watches standard error, it shows there how far
-/// long work is.
-pub fn run_begun(
-    rt: HostRuntime,
+/// long work is. Who starts the threads of callers works beside it.
+pub fn run_begun<R>(
+    rt: R,
     is_watched: bool,
     words: &[String],
-    begun: Begun<HostRuntime>,
-    doors: &mut RealDoors<HostRuntime>,
+    begun: Begun<R>,
+    doors: &mut RealDoors<R>,
 ) -> Result<Status, Missing>
+where
+    R: Wait
+        + Threads
+        + Net
+        + RandomSource
+        + Clock
+        + Input
+        + Print
+        + Eprint
+        + AllocGlobal
+        + Files<File = File>
+        + Copy
+        + Drop,
     ensures { IfOk result (λ status. Contains (statuses (line_in (map string_bytes words.now))) status.code) }
 {
     let Begun {
         opened,
         keeper,
         spawner,
-        starter,
     } = begun;
     let host = RealServer::new(rt, rt.alloc(), opened, keeper)?;
-    // The threads of callers are started by a thread of its own, which ends once the spawner is gone; what the words ask
-    // for is done in this one.
-    let Ok(starting) = thread::spawn(&rt, move || start_all(&rt, starter)) else {
-        return Err(Missing::Thread);
-    };
-    let ended = run_over(rt, is_watched, words, host, spawner, doors);
-    starting.join(&rt);
-    ended
+    run_over(rt, is_watched, words, host, spawner, doors)
 }
 
-/// Runs the program over what the words speak of.
-pub fn run_words(rt: HostRuntime, is_watched: bool, words: &[String]) -> Result<Status, Missing>
+/// Runs the program over words that serve nobody: no callers' threads are started.
+pub fn run_words<R>(
+    rt: R,
+    files: HostRuntime,
+    is_watched: bool,
+    words: &[String],
+) -> Result<Status, Missing>
+where
+    R: Wait
+        + Threads
+        + Net
+        + RandomSource
+        + Clock
+        + Input
+        + Print
+        + Eprint
+        + AllocGlobal
+        + Files<File = File>
+        + Copy
+        + Send
+        + Drop
+        + 'static,
     ensures { IfOk result (λ status. Contains (statuses (line_in (map string_bytes words.now))) status.code) }
 {
-    let (begun, _thread) = begin(rt, words)?;
+    let (begun, _beside) = begin(rt, files, words)?;
     let mut doors = RealDoors::by(rt, words)?;
     run_begun(rt, is_watched, words, begun, &mut doors)
 }

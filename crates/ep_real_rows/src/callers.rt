@@ -4,7 +4,13 @@ use crate::asked::{Ask, ask_at};
 use crate::turn::words_of;
 use ep_real::{Missing, run_words};
 use std::alloc::AllocError;
+use std::fs::{File, Files};
+use std::io::{Eprint, Input, Print};
 use std::net::{Net, SocketAddr, TcpStream};
+use std::random::RandomSource;
+use std::sync::Wait;
+use std::thread::Threads;
+use std::time::Clock;
 
 /// The addresses of a server's doors.
 #[derive(Clone, Copy)]
@@ -15,11 +21,32 @@ pub struct Doorways {
 
 /// A writer of standard input's lines comes, then one request after the other. Answers what the requests were told, and
 /// the status of the writer, which says itself what it wrote.
-pub fn visit(rt: HostRuntime, ways: Doorways, asks: &'static [Ask]) -> Result<String, Missing> {
+pub fn visit<R>(
+    rt: R,
+    files: HostRuntime,
+    ways: Doorways,
+    asks: &'static [Ask],
+) -> Result<String, Missing>
+where
+    R: Wait
+        + Threads
+        + Net<Stream = TcpStream>
+        + RandomSource
+        + Clock
+        + Input
+        + Print
+        + Eprint
+        + AllocGlobal
+        + Files<File = File>
+        + Copy
+        + Send
+        + Drop
+        + 'static,
+{
     let alloc = rt.alloc();
     let address = format!(in alloc; "{}", ways.pads)?;
     let words = words_of(alloc, &["write", address.as_str(), "p", "t"])?;
-    let wrote = run_words(rt, false, &words)?;
+    let wrote = run_words(rt, files, false, &words)?;
     let mut lines = format!(in alloc; "write: {}\n", wrote.code)?;
     ask_all(&rt, ways.api, asks, &mut lines)?;
     Ok(lines)

@@ -1,11 +1,17 @@
-//! A server, from its beginning to its end.
+//! A server before its callers come, and what is told behind it.
 
 use crate::asked::Ask;
-use crate::callers::{Doorways, visit};
-use ep_real::{Begun, Missing, RealDoors, begin, run_begun, run_words};
+use crate::callers::Doorways;
+use ep_real::{Begun, Beside, Missing, RealDoors, begin, run_words};
 use ep_run::Status;
 use std::alloc::{AllocError, Global};
-use std::thread;
+use std::fs::{File, Files};
+use std::io::{Eprint, Input, Print};
+use std::net::Net;
+use std::random::RandomSource;
+use std::sync::Wait;
+use std::thread::{JoinHandle, Threads};
+use std::time::Clock;
 
 /// The words of a server, and what is asked of it behind a writer.
 pub struct Turn {
@@ -22,38 +28,73 @@ pub fn words_of(alloc: Global, words: &[&str]) -> Result<Vec<String>, AllocError
     Ok(given)
 }
 
-/// Serves the callers of a turn, and answers what they were told, and the status.
-pub fn serve(rt: HostRuntime, turn: &Turn) -> Result<String, Missing> {
-    let words = words_of(rt.alloc(), &turn.words)?;
-    let (begun, kept) = begin(rt, &words)?;
-    let lines = serve_begun(rt, &words, begun, turn.asks)?;
-    kept.join(&rt);
-    Ok(lines)
+/// A server before its callers come.
+#[derive(Drop)]
+pub struct Stands<R: Wait + Net + RandomSource + Clock + Copy + Drop> {
+    pub begun: Begun<R>,
+    pub doors: RealDoors<R>,
+    pub ways: Doorways,
 }
 
-// So many callers come as there are requests, and a writer.
-fn serve_begun(
-    rt: HostRuntime,
+/// Begins a server. As many callers may come as there are requests, and a writer.
+pub fn stand<R>(
+    rt: R,
+    files: HostRuntime,
     words: &[String],
-    begun: Begun<HostRuntime>,
-    asks: &'static [Ask],
-) -> Result<String, Missing> {
+    asks: &[Ask],
+) -> Result<(Stands<R>, Beside<R>), Missing>
+where
+    R: Threads
+        + Wait
+        + Net
+        + RandomSource
+        + Clock
+        + AllocGlobal
+        + Files<File = File>
+        + Copy
+        + Send
+        + Drop
+        + 'static,
+{
+    let (begun, beside) = begin(rt, files, words)?;
     let mut doors = RealDoors::by(rt, words)?;
     let Some((pads, api)) = doors.addresses() else {
         return Err(Missing::Address);
     };
     doors.end_after((asks.len() as u64).saturating_add(1));
     let ways = Doorways { pads, api };
-    let Ok(callers) = thread::spawn(&rt, move || visit(rt, ways, asks)) else {
-        return Err(Missing::Thread);
-    };
-    let ended = run_begun(rt, false, words, begun, &mut doors)?;
-    let told = callers.join(&rt)?;
-    Ok(format!(in rt.alloc(); "{told}serve: {}\n", ended.code)?)
+    Ok((Stands { begun, doors, ways }, beside))
+}
+
+/// What the callers of a server that has ended were told, and its status.
+pub fn told<R: Threads>(
+    rt: &R,
+    alloc: Global,
+    callers: JoinHandle<Result<String, Missing>>,
+    ended: Result<Status, Missing>,
+) -> Result<String, Missing> {
+    let told = callers.join(rt)?;
+    Ok(format!(in alloc; "{told}serve: {}\n", ended?.code)?)
 }
 
 /// Judges the pads of the folder that was served.
-pub fn judge(rt: HostRuntime) -> Result<Status, Missing> {
+pub fn judge<R>(rt: R, files: HostRuntime) -> Result<Status, Missing>
+where
+    R: Wait
+        + Threads
+        + Net
+        + RandomSource
+        + Clock
+        + Input
+        + Print
+        + Eprint
+        + AllocGlobal
+        + Files<File = File>
+        + Copy
+        + Send
+        + Drop
+        + 'static,
+{
     let words = words_of(rt.alloc(), &["verify", "pads", "2"])?;
-    run_words(rt, false, &words)
+    run_words(rt, files, false, &words)
 }

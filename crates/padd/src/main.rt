@@ -3,10 +3,11 @@
 //! All that the program does is `run`, over the real devices that its words speak of; `ep_real` opens these.
 #![tactic(auto)]
 
-use ep_real::{Missing, run_words};
+use ep_doors::start_all;
+use ep_real::{Beside, Missing, RealDoors, begin, run_begun};
 use std::io::{ErrorKind, IsTerminal};
 use std::process::ExitCode;
-use std::{env, io};
+use std::{env, io, thread};
 
 /// The words behind the program's name, or none where one is not UTF-8.
 fn given_words(rt: &HostRuntime) -> io::Result<Vec<String>> {
@@ -31,8 +32,28 @@ fn main(rt: HostRuntime) -> ExitCode {
     let Ok(words) = given_words(&rt) else {
         return ExitCode::from(7);
     };
+    let (
+        begun,
+        Beside {
+            starter,
+            database: _,
+        },
+    ) = match begin(rt, rt, &words) {
+        Ok(begun) => begun,
+        Err(missing) => return lacking(&rt, missing),
+    };
+    let mut doors = match RealDoors::by(rt, &words) {
+        Ok(doors) => doors,
+        Err(missing) => return lacking(&rt, missing),
+    };
     let is_watched = rt.stderr().is_terminal();
-    match run_words(rt, is_watched, &words) {
+    // The threads of callers are started by a thread of its own; what the words ask for is done in this one.
+    let Ok(starting) = thread::spawn(&rt, move || start_all(&rt, starter)) else {
+        return lacking(&rt, Missing::Thread);
+    };
+    let ended = run_begun(rt, is_watched, &words, begun, &mut doors);
+    starting.join(&rt);
+    match ended {
         Ok(status) => ExitCode::from(status.code),
         Err(missing) => lacking(&rt, missing),
     }
