@@ -8,6 +8,7 @@ use Rattle.ep_pad.proofs.machine.PadMachine.TheSendSync as machine
 use Rattle.ep_pad_port.proofs.Crossing.{house_send, house_sync}
 use Rattle.ep_serve.proofs.Crossing.{serving_send}
 use Rattle.ep_real.specs.contracts.host.RealJob as real_job
+use Rattle.ep_real.specs.contracts.keeping.Database as database
 use Rattle.ep_real.specs.contracts.keeping.Teller as teller
 use Rattle.ep_real.specs.contracts.shelf.RealDisk as real_disk
 use Rattle.ep_real.specs.contracts.shelf.RealShelf as real_shelf
@@ -24,6 +25,9 @@ shelf_sends = search (sendable, crosses) depth 30
 
 pub disk_sends : IsSend real_disk.the_row
 disk_sends = search (sendable, crosses) depth 30
+
+pub database_sends : IsSend database.the_row
+database_sends = search (sendable, crosses) depth 30
 
 pub teller_sends : (R : RattleType) → IsSend R → IsSend (teller.the_row R)
 teller_sends R r = declared_send (teller.the_type R) (search (sendable, crosses, far_send) depth 100 fits 1000000, tt)
