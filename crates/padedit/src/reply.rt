@@ -48,6 +48,12 @@ impl Reply {
         serde_json::put(&mut self.members, alloc, name, value)
     }
 
+    /// An object within.
+    fn put_reply(&mut self, alloc: Global, name: &str, reply: Reply) -> Result<(), AllocError> {
+        let Reply { members } = reply;
+        self.put(alloc, name, Value::Object(members))
+    }
+
     fn put_word(&mut self, alloc: Global, name: &str, word: &str) -> Result<(), AllocError> {
         let word = String::from_str(alloc, word)?;
         self.put(alloc, name, Value::String(word))
@@ -157,8 +163,8 @@ impl Reply {
     }
 
     fn put_state(&mut self, alloc: Global, editor: &Editor) -> Result<(), AllocError> {
-        let Reply { members } = Reply::of_state(alloc, editor.state())?;
-        self.put(alloc, "state", Value::Object(members))
+        let state = Reply::of_state(alloc, editor.state())?;
+        self.put_reply(alloc, "state", state)
     }
 
     /// The line of the reply, with what the editor is.
