@@ -1,68 +1,112 @@
-//! What a line asks for.
+//! What a line asks for: the members of each request, and what is done with them.
 
 use crate::members::{Member, attr_map_of, number_of, sessions_of, text_of, units_of, with_of};
 use crate::refusal::Stopped;
+use crate::reply::Reply;
 use ep_attr::AttrMap;
-use ep_editor::Wanted;
+use ep_cs::Change;
+use ep_editor::{Editor, Said, Wanted};
+use ep_units::Units;
+use ep_wire_words::ClientMsg;
 use serde_json::Value;
 use std::alloc::Global;
 
-/// What is asked for.
-#[derive(Drop)]
-pub enum Asked<'a> {
-    Enter(Wanted),
-    Heard(&'a str),
-    Edit {
-        at: u32,
-        drop: u32,
-        put: &'a str,
-        with: AttrMap,
-    },
-    Format {
-        at: u32,
-        count: u32,
-        attrs: AttrMap,
-    },
-    Submit,
-    Lost,
-    Return,
-}
-
-fn enter(alloc: Global, request: &Value) -> Result<Asked<'_>, Stopped> {
-    Ok(Asked::Enter(Wanted {
-        pad: units_of(alloc, request, Member::Pad)?,
-        token: units_of(alloc, request, Member::Token)?,
-        sessions: sessions_of(alloc, request)?,
-    }))
-}
-
-fn edit(alloc: Global, request: &Value) -> Result<Asked<'_>, Stopped> {
-    Ok(Asked::Edit {
-        at: number_of(request, Member::At)?,
-        drop: number_of(request, Member::Drop)?,
-        put: text_of(request, Member::Put)?,
-        with: with_of(alloc, request)?,
+fn wanted_of(alloc: Global, request: &Value) -> Result<Wanted, Stopped> {
+    let pad = units_of(alloc, request, Member::Pad)?;
+    let token = units_of(alloc, request, Member::Token)?;
+    let sessions = sessions_of(alloc, request)?;
+    Ok(Wanted {
+        pad,
+        token,
+        sessions,
     })
 }
 
-fn format(alloc: Global, request: &Value) -> Result<Asked<'_>, Stopped> {
-    Ok(Asked::Format {
-        at: number_of(request, Member::At)?,
-        count: number_of(request, Member::Count)?,
-        attrs: attr_map_of(alloc, request)?,
-    })
+fn sends(alloc: Global, msg: &ClientMsg) -> Result<Reply, Stopped> {
+    Ok(Reply::sends(alloc, msg)?)
 }
 
-/// What a request asks for.
-pub fn read_asked(alloc: Global, request: &Value) -> Result<Asked<'_>, Stopped> {
+fn enter(alloc: Global, editor: &mut Editor, request: &Value) -> Result<Reply, Stopped> {
+    let wanted = wanted_of(alloc, request)?;
+    let first = editor.enter(alloc, wanted)?;
+    sends(alloc, &first)
+}
+
+fn shown(alloc: Global, editor: &Editor) -> Result<Reply, Stopped> {
+    match editor {
+        Editor::Inside(pad) => Ok(Reply::shows(alloc, pad)?),
+        Editor::Outside | Editor::Entering(_) => Ok(Reply::new(alloc)),
+    }
+}
+
+fn changed(alloc: Global, change: &Change, by: &Units) -> Result<Reply, Stopped> {
+    Ok(Reply::changes_by(alloc, change, by)?)
+}
+
+fn heard(alloc: Global, editor: &mut Editor, request: &Value) -> Result<Reply, Stopped> {
+    let message = text_of(request, Member::Message)?;
+    match editor.heard(alloc, message)? {
+        Said::Shown => shown(alloc, editor),
+        Said::Changed { change, by } => changed(alloc, &change, &by),
+        Said::Nothing => Ok(Reply::new(alloc)),
+        Said::Closed(word) => Ok(Reply::closes(alloc, word)?),
+    }
+}
+
+fn edit(alloc: Global, editor: &mut Editor, request: &Value) -> Result<Reply, Stopped> {
+    let at = number_of(request, Member::At)?;
+    let drop = number_of(request, Member::Drop)?;
+    let put = text_of(request, Member::Put)?;
+    let with = with_of(alloc, request)?;
+    editor.edit(alloc, at, drop, put, &with)?;
+    Ok(Reply::new(alloc))
+}
+
+fn painted(
+    alloc: Global,
+    editor: &mut Editor,
+    at: u32,
+    count: u32,
+    attrs: &AttrMap,
+) -> Result<Reply, Stopped> {
+    let change = editor.format(alloc, at, count, attrs)?;
+    Ok(Reply::changes(alloc, &change)?)
+}
+
+fn format(alloc: Global, editor: &mut Editor, request: &Value) -> Result<Reply, Stopped> {
+    let at = number_of(request, Member::At)?;
+    let count = number_of(request, Member::Count)?;
+    let attrs = attr_map_of(alloc, request)?;
+    painted(alloc, editor, at, count, &attrs)
+}
+
+fn submit(alloc: Global, editor: &mut Editor) -> Result<Reply, Stopped> {
+    match editor.submit(alloc)? {
+        Some(msg) => sends(alloc, &msg),
+        None => Ok(Reply::new(alloc)),
+    }
+}
+
+fn lost(alloc: Global, editor: &mut Editor) -> Result<Reply, Stopped> {
+    editor.lost()?;
+    Ok(Reply::new(alloc))
+}
+
+fn come_back(alloc: Global, editor: &mut Editor) -> Result<Reply, Stopped> {
+    let first = editor.come_back(alloc)?;
+    sends(alloc, &first)
+}
+
+/// The reply to what a request asks for. Its members are read first.
+pub fn carry_out(alloc: Global, editor: &mut Editor, request: &Value) -> Result<Reply, Stopped> {
     match text_of(request, Member::Do)? {
-        "enter" => enter(alloc, request),
-        "heard" => Ok(Asked::Heard(text_of(request, Member::Message)?)),
-        "edit" => edit(alloc, request),
-        "format" => format(alloc, request),
-        "submit" => Ok(Asked::Submit),
-        "lost" => Ok(Asked::Lost),
-        "return" => Ok(Asked::Return),
+        "enter" => enter(alloc, editor, request),
+        "heard" => heard(alloc, editor, request),
+        "edit" => edit(alloc, editor, request),
+        "format" => format(alloc, editor, request),
+        "submit" => submit(alloc, editor),
+        "lost" => lost(alloc, editor),
+        "return" => come_back(alloc, editor),
         _ => Err(Stopped::from(Member::Do)),
     }
 }

@@ -25,7 +25,6 @@ impl Line {
 }
 
 /// What was read of a source and not answered yet.
-#[derive(Drop)]
 pub struct Lines {
     held: Vec<u8>,
     /// So many bytes hold no line feed.
@@ -33,6 +32,17 @@ pub struct Lines {
     /// A line that is too long is being passed over.
     is_long: bool,
     is_over: bool,
+}
+
+impl Drop for Lines {
+    fn drop(self) {
+        let Lines {
+            held: _,
+            seen: _,
+            is_long: _,
+            is_over: _,
+        } = self;
+    }
 }
 
 impl Lines {
@@ -53,7 +63,7 @@ impl Lines {
     ) -> Result<Option<Line>, Stop> {
         for _ in 0..u64::MAX {
             if let Some(end) = self.line_end() {
-                return Ok(Some(self.cut(alloc, end)?));
+                return self.cut(alloc, end).map(Some);
             }
             if self.is_over {
                 return Ok(self.rest(alloc));

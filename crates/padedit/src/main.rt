@@ -46,6 +46,21 @@ impl From<AllocError> for Stop {
     }
 }
 
+/// An editor, and the lines that it is asked for.
+struct Asking {
+    editor: Editor,
+    lines: Lines,
+}
+
+impl Drop for Asking {
+    fn drop(self) {
+        let Asking {
+            editor: _,
+            lines: _,
+        } = self;
+    }
+}
+
 /// Answers a line. An empty one is passed over.
 fn answer_line<R: Print + AllocGlobal>(
     rt: &R,
@@ -60,22 +75,41 @@ fn answer_line<R: Print + AllocGlobal>(
     Ok(())
 }
 
-/// Answers all lines.
-fn answer_all<R: Print + AllocGlobal, S: Source>(rt: &R, source: &mut S) -> Result<(), Stop> {
-    let mut editor = Editor::new();
-    let mut lines = Lines::new(rt.alloc());
-    for _ in 0..u64::MAX {
-        match lines.next_line(rt.alloc(), source)? {
-            Some(line) => answer_line(rt, &mut editor, &line)?,
-            None => return Ok(()),
+impl Asking {
+    /// Answers the next line, if there is one.
+    fn answer_next<R: Print + AllocGlobal, S: Source>(
+        &mut self,
+        rt: &R,
+        source: &mut S,
+    ) -> Result<bool, Stop> {
+        match self.lines.next_line(rt.alloc(), source)? {
+            Some(line) => answer_line(rt, &mut self.editor, &line).map(|()| true),
+            None => Ok(false),
         }
     }
-    Ok(())
+
+    /// Answers all lines.
+    fn answer_all<R: Print + AllocGlobal, S: Source>(
+        &mut self,
+        rt: &R,
+        source: &mut S,
+    ) -> Result<(), Stop> {
+        for _ in 0..u64::MAX {
+            if !self.answer_next(rt, source)? {
+                return Ok(());
+            }
+        }
+        Ok(())
+    }
 }
 
 fn main(rt: HostRuntime) -> ExitCode {
     let mut source = StdSource::new(rt.reader());
-    let told = match answer_all(&rt, &mut source) {
+    let mut asking = Asking {
+        editor: Editor::new(),
+        lines: Lines::new(rt.alloc()),
+    };
+    let told = match asking.answer_all(&rt, &mut source) {
         Ok(()) => return ExitCode::SUCCESS,
         Err(Stop::Input) => eprintln!(rt; "padedit: the input can't be read"),
         Err(Stop::Output) => eprintln!(rt; "padedit: the output isn't taken"),

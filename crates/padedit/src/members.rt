@@ -72,15 +72,25 @@ pub fn units_of(alloc: Global, request: &Value, member: Member) -> Result<Units,
     Ok(Units::from_str(alloc, text)?)
 }
 
+/// The values of a list, none where the member is missing.
+fn values_of(request: &Value, member: Member) -> Result<&[Value], Stopped> {
+    match request.get(member.name()) {
+        Some(list) => Ok(list.as_array().ok_or(member)?.as_slice()),
+        None => Ok(&[]),
+    }
+}
+
+fn push_id(alloc: Global, ids: &mut Listed<Units>, value: &Value) -> Result<(), Stopped> {
+    let id = value.as_str().ok_or(Member::Sessions)?;
+    Ok(ids.push(Units::from_str(alloc, id)?)?)
+}
+
 /// The ids of sessions, none where the member is missing.
 pub fn sessions_of(alloc: Global, request: &Value) -> Result<Listed<Units>, Stopped> {
+    let values = values_of(request, Member::Sessions)?;
     let mut ids = Listed::new(alloc);
-    let Some(values) = request.get(Member::Sessions.name()) else {
-        return Ok(ids);
-    };
-    for value in values.as_array().ok_or(Member::Sessions)? {
-        let id = value.as_str().ok_or(Member::Sessions)?;
-        ids.push(Units::from_str(alloc, id)?)?;
+    for value in values {
+        push_id(alloc, &mut ids, value)?;
     }
     Ok(ids)
 }
@@ -107,16 +117,23 @@ fn attr(alloc: Global, key: &str, value: &str) -> Result<Attr, Stopped> {
     })
 }
 
+fn push_pair(alloc: Global, pairs: &mut Listed<Attr>, value: &Value) -> Result<(), Stopped> {
+    Ok(pairs.push(attr_of(alloc, value)?)?)
+}
+
+fn pairs_of(alloc: Global, values: &[Value]) -> Result<Listed<Attr>, Stopped> {
+    let mut pairs = Listed::new(alloc);
+    for value in values {
+        push_pair(alloc, &mut pairs, value)?;
+    }
+    Ok(pairs)
+}
+
 /// The map of pairs, the empty one where the member is missing.
 pub fn with_of(alloc: Global, request: &Value) -> Result<AttrMap, Stopped> {
-    let mut pairs = Vec::new(alloc);
-    let Some(values) = request.get(Member::With.name()) else {
-        return Ok(AttrMap::none(alloc));
-    };
-    for value in values.as_array().ok_or(Member::With)? {
-        pairs.push(attr_of(alloc, value)?)?;
-    }
-    Ok(AttrMap::read(alloc, &pairs)?)
+    let values = values_of(request, Member::With)?;
+    let pairs = pairs_of(alloc, values)?;
+    Ok(AttrMap::read(alloc, pairs.as_slice())?)
 }
 
 /// The map of one key.

@@ -3,7 +3,7 @@
 use crate::refusal::Refusal;
 use ep_apply::Doc;
 use ep_cs::Change;
-use ep_csread::{for_wire, print_attribs};
+use ep_csread::{Wire, for_wire, print_attribs};
 use ep_editor::{Editor, Entered, State};
 use ep_pool::Pool;
 use ep_units::{NoMemory, Units};
@@ -48,6 +48,12 @@ impl Reply {
         serde_json::put(&mut self.members, alloc, name, value)
     }
 
+    /// An object within.
+    fn put_reply(&mut self, alloc: Global, name: &str, reply: Reply) -> Result<(), AllocError> {
+        let Reply { members } = reply;
+        self.put(alloc, name, Value::Object(members))
+    }
+
     fn put_word(&mut self, alloc: Global, name: &str, word: &str) -> Result<(), AllocError> {
         let word = String::from_str(alloc, word)?;
         self.put(alloc, name, Value::String(word))
@@ -63,11 +69,31 @@ impl Reply {
         Ok(self.put(alloc, "pool", pool)?)
     }
 
+    /// A change, or a document as one of the empty text.
+    fn put_wire(&mut self, alloc: Global, name: &str, wire: &Wire) -> Result<(), NoMemory> {
+        self.put_text(alloc, name, &wire.text)?;
+        self.put_pool(alloc, &wire.pool)
+    }
+
+    fn put_change(&mut self, alloc: Global, change: &Change) -> Result<(), NoMemory> {
+        let wire = for_wire(alloc, change)?;
+        self.put_wire(alloc, "change", &wire)
+    }
+
     fn put_attribs(&mut self, alloc: Global, doc: &Doc) -> Result<(), NoMemory> {
         let insert = doc.as_insert(alloc)?;
         let wire = print_attribs(alloc, &insert)?;
-        self.put_text(alloc, "attribs", &wire.text)?;
-        self.put_pool(alloc, &wire.pool)
+        self.put_wire(alloc, "attribs", &wire)
+    }
+
+    fn put_doc_text(&mut self, alloc: Global, doc: &Doc) -> Result<(), NoMemory> {
+        let text = doc.text(alloc)?;
+        self.put_text(alloc, "text", &text)
+    }
+
+    fn put_doc(&mut self, alloc: Global, doc: &Doc) -> Result<(), NoMemory> {
+        self.put_attribs(alloc, doc)?;
+        self.put_doc_text(alloc, doc)
     }
 
     /// A message is to be sent.
@@ -80,10 +106,8 @@ impl Reply {
 
     /// The view has changed so.
     pub fn changes(alloc: Global, change: &Change) -> Result<Reply, NoMemory> {
-        let wire = for_wire(alloc, change)?;
         let mut reply = Reply::new(alloc);
-        reply.put_text(alloc, "change", &wire.text)?;
-        reply.put_pool(alloc, &wire.pool)?;
+        reply.put_change(alloc, change)?;
         Ok(reply)
     }
 
@@ -104,9 +128,7 @@ impl Reply {
     /// All that there is to show.
     pub fn shows(alloc: Global, pad: &Entered) -> Result<Reply, NoMemory> {
         let mut reply = Reply::new(alloc);
-        let doc = pad.client.view();
-        reply.put_attribs(alloc, doc)?;
-        reply.put_text(alloc, "text", &doc.text(alloc)?)?;
+        reply.put_doc(alloc, pad.client.view())?;
         reply.put_text(alloc, "author", &pad.author)?;
         reply.put(alloc, "readOnly", Value::Bool(pad.read_only))?;
         Ok(reply)
@@ -119,27 +141,36 @@ impl Reply {
         Ok(reply)
     }
 
+    /// What an editor inside of a pad is.
+    fn put_inside(&mut self, alloc: Global, state: &State) -> Result<(), AllocError> {
+        self.put(alloc, "rev", Value::from(state.rev))?;
+        self.put(alloc, "unsent", Value::Bool(state.unsent))?;
+        self.put(alloc, "waiting", Value::Bool(state.waiting))
+    }
+
+    /// What an editor is. Outside of a pad it has no revision.
+    fn of_state(alloc: Global, state: Option<State>) -> Result<Reply, AllocError> {
+        let mut members = Reply::new(alloc);
+        let connected = match state {
+            Some(state) => {
+                members.put_inside(alloc, &state)?;
+                state.connected
+            }
+            None => false,
+        };
+        members.put(alloc, "connected", Value::Bool(connected))?;
+        Ok(members)
+    }
+
+    fn put_state(&mut self, alloc: Global, editor: &Editor) -> Result<(), AllocError> {
+        let state = Reply::of_state(alloc, editor.state())?;
+        self.put_reply(alloc, "state", state)
+    }
+
     /// The line of the reply, with what the editor is.
     pub fn line(mut self, alloc: Global, editor: &Editor) -> Result<String, AllocError> {
-        let state = state(alloc, editor.state())?;
-        self.put(alloc, "state", state)?;
+        self.put_state(alloc, editor)?;
         let Reply { members } = self;
         Value::Object(members).to_string(alloc)
     }
-}
-
-/// What an editor is. Outside of a pad it has no revision.
-fn state(alloc: Global, state: Option<State>) -> Result<Value, AllocError> {
-    let mut members = Map::new(alloc);
-    let connected = match state {
-        Some(state) => {
-            serde_json::put(&mut members, alloc, "rev", Value::from(state.rev))?;
-            serde_json::put(&mut members, alloc, "unsent", Value::Bool(state.unsent))?;
-            serde_json::put(&mut members, alloc, "waiting", Value::Bool(state.waiting))?;
-            state.connected
-        }
-        None => false,
-    };
-    serde_json::put(&mut members, alloc, "connected", Value::Bool(connected))?;
-    Ok(Value::Object(members))
 }
