@@ -12,6 +12,7 @@ Status 0: all points are well. 1: one isn't. 3: something that this needs is mis
 """
 import argparse
 import asyncio
+import base64
 import http.server
 import json
 import pathlib
@@ -135,8 +136,6 @@ class Wire(threading.Thread):
 class Pages(http.server.SimpleHTTPRequestHandler):
     """Gives out web/out, as docs/RUNNING.md has it of nginx: /p/NAME is the page."""
 
-    extra = ""  # stands in the test's copy of the page alone
-
     def __init__(self, *args):
         super().__init__(*args, directory=str(WEB))
 
@@ -145,36 +144,13 @@ class Pages(http.server.SimpleHTTPRequestHandler):
             self.send_response(302)
             self.send_header("Location", "/p/")
             self.end_headers()
-        elif self.path.split("?")[0].startswith("/p/"):
-            page = (WEB / "index.html").read_text()
-            body = page.replace("</head>", f"{self.extra}</head>").encode()
-            self.send_response(200)
-            self.send_header("Content-Type", "text/html; charset=utf-8")
-            self.send_header("Content-Length", str(len(body)))
-            self.end_headers()
-            self.wfile.write(body)
-        elif self.path == "/typing.js":
-            self.send_response(200)
-            self.send_header("Content-Type", "text/javascript")
-            self.end_headers()
-            self.wfile.write(TYPING)
-        else:
-            super().do_GET()
+            return
+        if self.path.split("?")[0].startswith("/p/"):
+            self.path = "/index.html"
+        super().do_GET()
 
     def log_message(self, *_):
         pass
-
-
-# types a line by itself, for a browser that nobody drives
-TYPING = b"""
-const line = new URLSearchParams(location.search).get('type');
-const typing = setInterval(() => {
-  if (!line || document.documentElement.dataset.phase !== 'saved') return;
-  clearInterval(typing);
-  const { CodeMirror: cm } = document.querySelector('.CodeMirror');
-  cm.replaceSelection(line, 'end', '+input');
-}, 100);
-"""
 
 
 class Wrong(Exception):
@@ -780,24 +756,47 @@ class Test:
         until(lambda: self.a.run("return document.title") == "a name / of a pad?", "the pad that was named")
         self.a.errors()
 
+    def open_large(self):
+        """Both windows on a text of 1,000,000 units, each second stretch of 50 bold."""
+        self.count += 1
+        pad, text = f"large{self.count}", large_text()
+        self.server.api("createPad", padID=pad, text=text)
+        change(self.server, pad, large_change(text), [["bold", "true"]])
+        for window in (self.a, self.b):
+            window.here().execute_cdp_cmd("Page.addScriptToEvaluateOnNewDocument", {"source": OPENED})
+            window.open(pad)
+        return text
+
     def large(self):
         """A text of 1,000,000 units opens, and is typed into."""
-        text = large_text()
-        self.server.api("createPad", padID="large", text=text)
-        spans = len(text) // 100
-        change(self.server, "large", large_change(text), [["bold", "true"]])
-        begun = time.monotonic()
-        self.a.open("large")
-        took = time.monotonic() - begun
-        self.b.open("large")
+        text = self.open_large()
         self.a.keys(Keys.CONTROL + Keys.HOME)
         self.b.keys(Keys.CONTROL + Keys.END)
         for x, y in zip("begin", "ended"):
             self.a.type(x)
             self.b.type(y)
         self.agree("begin" + text + "ended\n", 60)
-        print(f"    {spans} stretches of bold; opened in {took:.2f} s, as this program sees it")
         self.shoot("large")
+
+    def figures(self):
+        """How long a key takes in a text of 1,000,000 units and in an empty one, and what the windows take of memory."""
+        for name, open_pad, place in (("empty", lambda: self.fresh(""), Keys.HOME), ("large", self.open_large, Keys.HOME),
+                                      ("large, at the end", lambda: None, Keys.END)):
+            open_pad()
+            for window in (self.a, self.b):
+                window.keys(Keys.CONTROL + place)
+                window.run(TIMES)
+            for n in range(40):
+                self.a.keys("abcdefgh "[n % 9])
+                time.sleep(0.3)
+            self.a.wait("saved")
+            work, echo = ([row[n] for row in self.a.run("return times.own")] for n in (1, 2))
+            begun = [row[0] for row in self.a.run("return times.own")]
+            far = [b - a for a, b in zip(begun, self.b.run("return times.others"))]
+            opened = self.a.run("return window.openedAfter")
+            print(f"    {name}: key to text {spread(work)}, to the next frame {spread(echo)}, to the other's screen "
+                  f"{spread(far)}; opened in {opened or 0:.0f} ms; load {open('/proc/loadavg').read().split()[0]}")
+        print(f"    memory of the browser's pages: {memory(self.driver)}")
 
     def knows(self, request):
         """Whether this padedit knows a request."""
@@ -807,6 +806,62 @@ class Test:
             const program = await Program.start('../padedit.wasm', () => {});
             done((await program.ask({ do: arguments[0] })).refused !== 'shape do');
           });""", request)
+
+
+OPENED = """
+new MutationObserver(() => {
+  if (document.documentElement?.dataset.phase === 'saved') window.openedAfter ??= performance.now();
+}).observe(document, { attributes: true, subtree: true, attributeFilter: ['data-phase'] });
+"""
+
+# Each key of this window: when it was pressed, until the text has it, until the next frame is made. Each change of another's:
+# when the next frame is made.
+TIMES = """
+const { CodeMirror: cm } = document.querySelector('#text .CodeMirror');
+if (!window.times) {
+  const framed = (then) => requestAnimationFrame(() => {
+    const { port1, port2 } = new MessageChannel();
+    port1.onmessage = () => then(performance.now());
+    port2.postMessage(0);
+  });
+  let pressed = 0;
+  cm.getInputField().addEventListener('keydown', (event) => (pressed = event.timeStamp), true);
+  cm.on('changes', (_, [{ origin }]) => {
+    const begun = pressed, made = performance.now();
+    framed((at) => origin === '+input' ? times.own.push([performance.timeOrigin + begun, made - begun, at - begun])
+      : times.others.push(performance.timeOrigin + at));
+  });
+}
+window.times = { own: [], others: [] };
+"""
+
+
+def spread(figures):
+    """The middle and the one at 95 of 100, in milliseconds."""
+    ordered = sorted(figures)
+    return f"{ordered[len(ordered) // 2]:.1f} ms ({ordered[len(ordered) * 95 // 100]:.1f})" if ordered else "none"
+
+
+def memory(driver):
+    """The memory of each page's process, as the kernel counts its share."""
+    parents, sizes = {}, []
+    for process in pathlib.Path("/proc").glob("[0-9]*"):
+        try:
+            parents[int(process.name)] = int((process / "stat").read_text().rpartition(")")[2].split()[1])
+        except OSError:
+            pass
+    for pid in parents:
+        above = pid
+        while above in parents and above != driver.service.process.pid:
+            above = parents[above]
+        process = pathlib.Path(f"/proc/{pid}")
+        try:
+            if above == driver.service.process.pid and b"--type=renderer" in (process / "cmdline").read_bytes():
+                told = (process / "smaps_rollup").read_text().splitlines()
+                sizes += [int(line.split()[1]) // 1024 for line in told if line.startswith("Pss:")]
+        except OSError:
+            pass
+    return ", ".join(f"{size} MB" for size in sorted(sizes, reverse=True))
 
 
 class Missing(Exception):
@@ -863,7 +918,8 @@ def change(server, pad, changeset, pairs):
 
 POINTS = ["one_place", "both_ends", "an_emoji", "a_line_break", "a_paste", "bold_over_another", "undo", "a_cut", "a_kill",
           "a_reader", "a_denied_pad", "userdup", "a_deletion", "slider", "a_reload", "own_tokens", "no_markup", "policy",
-          "right_to_left", "keyboard", "start_page", "large"]
+          "right_to_left", "keyboard", "start_page", "large",
+          "firefox"]  # and "figures", which is only measured
 
 
 def browser():
@@ -874,6 +930,100 @@ def browser():
     driver = webdriver.Chrome(service=Service(shutil.which("chromedriver")), options=options)
     driver.set_script_timeout(60)
     return driver
+
+
+class Firefox:
+    """Firefox, driven over a WebSocket as WebDriver BiDi has it."""
+
+    def __init__(self, link):
+        self.link, self.count = link, 0
+
+    async def ask(self, method, **params):
+        self.count += 1
+        await self.link.send(json.dumps({"id": self.count, "method": method, "params": params}))
+        while True:
+            told = json.loads(await self.link.recv())
+            if told.get("id") == self.count:
+                if told["type"] != "success":
+                    raise Wrong(f"{method}: {told}")
+                return told["result"]
+
+    async def open(self, url):
+        await self.ask("session.new", capabilities={})
+        self.context = (await self.ask("browsingContext.getTree"))["contexts"][0]["context"]
+        await self.ask("browsingContext.setViewport", context=self.context, viewport={"width": 1600, "height": 900})
+        await self.ask("browsingContext.navigate", context=self.context, url=url, wait="complete")
+
+    async def run(self, script):
+        told = await self.ask("script.evaluate", expression=script, target={"context": self.context}, awaitPromise=True)
+        return told["result"].get("value")
+
+    async def wait(self, script, value):
+        for _ in range(600):
+            if (said := await self.run(script)) == value:
+                return
+            await asyncio.sleep(0.1)
+        raise Wrong(f"Firefox: {script} is {said!r}, not {value!r}")
+
+    async def type(self, text):
+        keys = [{"type": kind, "value": c} for c in text for kind in ("keyDown", "keyUp")]
+        await self.ask("input.performActions", context=self.context, actions=[{"type": "key", "id": "keys", "actions": keys}])
+
+    async def picture(self, file):
+        told = await self.ask("browsingContext.captureScreenshot", context=self.context)
+        file.write_bytes(base64.b64decode(told["data"]))
+
+
+def firefox(server, pages, pictures):
+    """Firefox shows a pad and types into it."""
+    if not shutil.which("firefox-esr"):
+        raise Missing("Debian's package firefox-esr is missing")
+    server.api("createPad", padID="fox", text="made before\n")
+    url = f"http://127.0.0.1:{pages}/p/fox?server=ws://127.0.0.1:{server.ports[0]}/"
+
+    async def drive(port):
+        for _ in range(300):
+            try:
+                link = await websockets.connect(f"ws://127.0.0.1:{port}/session", max_size=None)
+                break
+            except OSError:
+                await asyncio.sleep(0.2)
+        fox = Firefox(link)
+        await fox.open(url)
+        phase = "document.documentElement.dataset.phase"
+        await fox.wait(phase, "saved")
+        await fox.type("typed in Firefox. ")
+        await fox.wait("document.querySelector('#text .CodeMirror').CodeMirror.getValue()", "typed in Firefox. made before\n")
+        await fox.wait(phase, "saved")
+        if pictures:
+            await fox.picture(pictures / "firefox.png")
+        await link.close()
+
+    with tempfile.TemporaryDirectory() as profile:
+        port = free_port()
+        program = subprocess.Popen(["firefox-esr", "--headless", "--profile", profile, f"--remote-debugging-port={port}", "about:blank"],
+                                   stdout=subprocess.DEVNULL, stderr=subprocess.DEVNULL)
+        try:
+            asyncio.run(drive(port))
+            text = server.api("getText", padID="fox")["text"]
+            if not text.startswith("typed in Firefox. made before\n"):
+                raise Wrong(f"the API has {text!r}")
+        finally:
+            program.terminate()
+            program.wait()
+
+
+def try_firefox(server, pages, pictures):
+    begun = time.monotonic()
+    try:
+        firefox(server, pages, pictures)
+        said = "well"
+    except Missing as missing:
+        said = f"not tried: {missing}"
+    except Exception as wrong:  # pylint: disable=broad-except
+        said = f"WRONG: {type(wrong).__name__}: {wrong}"
+    print(f"firefox: {said} ({time.monotonic() - begun:.1f} s)")
+    return not said.startswith("WRONG")
 
 
 def try_points(test, points):
@@ -916,11 +1066,17 @@ def main():
     with tempfile.TemporaryDirectory() as folder:
         server = Server(args.command, folder)
         server.start()
-        driver = None
+        points, port, well, driver = args.points.split(","), pages.server_address[1], True, None
+        in_chromium = [point for point in points if point != "firefox"]
         try:
-            driver = browser()
-            test = Test(server, driver, pages.server_address[1], args.pictures)
-            return 0 if try_points(test, args.points.split(",")) else 1
+            if in_chromium:
+                driver = browser()
+                well = try_points(Test(server, driver, port, args.pictures), in_chromium)
+                driver.quit()
+                driver = None
+            if "firefox" in points:
+                well = try_firefox(server, port, args.pictures) and well
+            return 0 if well else 1
         finally:
             if driver:
                 driver.quit()

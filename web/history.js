@@ -34,10 +34,6 @@ export class History {
     $('text').hidden = false;
   }
 
-  get #isOpen() {
-    return $('text').hidden;
-  }
-
   showHead(head) {
     this.#head = head;
     $('slider').max = head;
@@ -50,11 +46,6 @@ export class History {
     $('shown').textContent = `Revision ${shown} of ${this.#head}`;
     $('slider').setAttribute('aria-valuetext', $('shown').textContent);
     if (shown !== Number($('slider').value)) this.#want();
-  }
-
-  /** A message came: what it brought may be enough. */
-  goOn() {
-    if (this.#isOpen && this.#asked !== null) this.#request(this.#asked);
   }
 
   /** What was asked for won't come. */

@@ -145,16 +145,24 @@ async function hear(message) {
   if (reply.by) page.heardOf.set(reply.by, Date.now());
   if (page.state.connected) page.link.isWell();
   if (page.state.connected && !before) say(page.readOnly ? 'Connected. You may read this pad.' : 'Connected.');
-  page.past.goOn();
   submit();
 }
 
 /** What the server sent can't be heard: another connection may do better. */
 function refuse(why, message) {
-  const { birth } = JSON.parse(message)?.data ?? {};
-  if (why === 'turn' && birth !== undefined) close('renewed');
+  const { type, data } = messageOf(message);
+  if (type === 'CHANGESET_REQ') page.past.forget();
+  else if (why === 'turn' && data?.birth !== undefined) close('renewed');
   else if (++page.refused < MOST_REFUSED) page.link.renew();
   else fail(new Error(`what the server sent can’t be heard: ${why}`));
+}
+
+function messageOf(text) {
+  try {
+    return JSON.parse(text) ?? {};
+  } catch {
+    return {};
+  }
 }
 
 function lost() {
