@@ -548,6 +548,20 @@ class Test:
         if sorted(text) != sorted("start\n" + "".join(own)):
             raise Wrong(f"something is lost or doubled: {text!r}")
 
+    def no_server(self):
+        """Where there is no server the page says so, and opens the pad once there is one."""
+        self.expected = ("WebSocket",)
+        self.a.wire.cut()
+        self.a.open("later", phase="opening")
+        until(lambda: "reached" in self.a.words(), "the page says that there is no server")
+        self.shoot("no-server")
+        self.a.wire.mend()
+        self.a.click("#ways button")
+        self.a.wait("saved")
+        self.b.open("later")
+        self.a.type("here")
+        self.agree("here\n")
+
     def a_reader(self):
         """A read-only id shows the pad, follows it, and takes no key."""
         pad = self.fresh("to be read")
@@ -917,7 +931,7 @@ def change(server, pad, changeset, pairs):
 
 
 POINTS = ["one_place", "both_ends", "an_emoji", "a_line_break", "a_paste", "bold_over_another", "undo", "a_cut", "a_kill",
-          "a_reader", "a_denied_pad", "userdup", "a_deletion", "slider", "a_reload", "own_tokens", "no_markup", "policy",
+          "no_server", "a_reader", "a_denied_pad", "userdup", "a_deletion", "slider", "a_reload", "own_tokens", "no_markup", "policy",
           "right_to_left", "keyboard", "start_page", "large",
           "firefox"]  # and "figures", which is only measured
 

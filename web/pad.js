@@ -17,16 +17,16 @@ const KEPT_SHARE = 20;
 /** What the server sends is refused so often in a row, and then the page gives up. */
 const MOST_REFUSED = 3;
 
-/** What each closing means. Where `again` is there, the page may come back: by a button with that word, or by itself. */
+/** What each closing means. The page may come back by itself, or by a button: `again` goes on, `anew` begins from nothing. */
 const CLOSED = {
   userdup: { words: 'This pad is open as you in another window, so this one has stopped.', again: 'Go on here' },
-  deleted: { words: 'This pad was deleted.' },
-  renewed: { words: 'This pad was deleted and made anew. What you see is its former text.' },
-  badChangeset: { words: 'The server refused what was typed here.' },
-  badMessage: { words: 'The server doesn’t understand this page.' },
-  full: { words: 'This pad is full: its file takes no more.' },
-  store: { words: 'The server can’t save at the moment.', again: 'Try now', byItself: true },
+  deleted: { words: 'This pad was deleted.', anew: 'Open it anew' },
+  renewed: { words: 'This pad was deleted and made anew. What you see is its former text.', anew: 'Open the new one' },
+  badChangeset: { words: 'The server refused what was typed here.', anew: 'Load again without it' },
+  badMessage: { words: 'The server doesn’t understand this page.', anew: 'Load again' },
+  full: { words: 'This pad is full: its file takes no more.', anew: 'Load again' },
   deny: { words: 'You may not open this pad.', again: 'Try again' },
+  store: { byItself: true },
 };
 
 const $ = (id) => document.getElementById(id);
@@ -49,7 +49,9 @@ const page = {
   heardOf: new Map(), // when each other author wrote last
   refused: 0,
   timers: { submit: 0, silence: 0, keep: 0 },
+  pause: KEPT_EACH,
   isKept: false,
+  cannotKeep: false, // the browser's storage takes no more
   said: '',
 };
 
@@ -81,6 +83,7 @@ async function edit(told) {
   const reply = await ask({ do: 'edit', ...told });
   if (reply.refused) return fail(new Error(`an edit was refused: ${reply.refused}`));
   page.timers.submit ||= setTimeout(submit, GATHERED);
+  keepSoon();
 }
 
 async function submit() {
@@ -143,7 +146,7 @@ async function hear(message) {
   if (reply.refused) return refuse(reply.refused, message);
   page.refused = 0;
   if (reply.by) page.heardOf.set(reply.by, Date.now());
-  if (page.state.connected) page.link.isWell();
+  if (page.state.connected && (before || phase() === 'saved')) page.link.isWell();
   if (page.state.connected && !before) say(page.readOnly ? 'Connected. You may read this pad.' : 'Connected.');
   submit();
 }
@@ -189,6 +192,13 @@ function comeBack() {
   page.link.open();
 }
 
+/** What isn't saved is given up. */
+function beginAnew() {
+  page.seat.forget();
+  page.state = { connected: false };
+  location.reload();
+}
+
 /** The page can't go on. */
 function fail(error) {
   page.fault ??= error.message;
@@ -202,8 +212,8 @@ function fail(error) {
 
 const isUnsaved = () => Boolean(page.state.waiting || page.state.unsent);
 
-function keepSoon(pause = KEPT_EACH) {
-  if (page.can.keep && isUnsaved()) page.timers.keep ||= setTimeout(keepNow, pause);
+function keepSoon() {
+  if (page.can.keep && isUnsaved()) page.timers.keep ||= setTimeout(keepNow, page.pause);
 }
 
 async function keepNow() {
@@ -213,9 +223,8 @@ async function keepNow() {
   const begun = performance.now();
   const { kept } = await ask({ do: 'keep' });
   page.isKept = kept !== undefined && page.seat.keep(kept);
-  const took = performance.now() - begun;
-  if (page.closed) return;
-  page.timers.keep = setTimeout(() => ((page.timers.keep = 0), keepSoon(0)), Math.max(KEPT_EACH, took * KEPT_SHARE));
+  page.cannotKeep = !page.isKept;
+  page.pause = Math.max(KEPT_EACH, (performance.now() - begun) * KEPT_SHARE);
 }
 
 /** All is saved: what was kept isn't needed. */
@@ -260,7 +269,6 @@ const PHASES = { fault: 'Stopped', closed: 'Stopped', opening: 'Opening …', of
 function showState() {
   const now = phase();
   if (now === 'saved') forget();
-  else keepSoon();
   document.documentElement.dataset.phase = now;
   setText('state', now === 'saved' && page.readOnly ? 'Read only' : PHASES[now]);
   setText('revision', isInside() ? `Revision ${page.state.rev}` : '');
@@ -270,7 +278,7 @@ function showState() {
 }
 
 function showTools() {
-  const mayWrite = page.isShown && !page.readOnly && !page.fault;
+  const mayWrite = page.isShown && !page.readOnly && !page.fault && $('history').hidden;
   const { canUndo, canRedo } = page.state;
   $('writing').hidden = page.readOnly;
   $('undo').disabled = !mayWrite || !canUndo;
@@ -299,6 +307,7 @@ function showNotice(now) {
     words = told.words + (isUnsaved() ? ' What you typed last isn’t saved.' : '');
     if (told.again) ways.push([told.again, comeBack]);
     rescue();
+    if (told.anew) ways.push([told.anew, beginAnew]);
   } else if (now === 'offline' || (now === 'opening' && document.documentElement.dataset.lost)) {
     words = page.isShown ? 'There is no connection. You can type on: it is sent as soon as there is one.' : 'The server can’t be reached. This page tries again.';
     ways.push(['Try now', () => page.link.hurry()]);
@@ -378,6 +387,23 @@ function toggle(id, panel) {
   return isOpen;
 }
 
+function togglePast() {
+  if (toggle('past', 'history')) return page.past.open(page.state.rev);
+  page.past.close();
+  page.text.cm.refresh();
+  page.text.cm.focus();
+  showTools();
+}
+
+/** The arrows go from button to button, as in every toolbar. */
+function stepThroughTools(event) {
+  const by = { ArrowRight: 1, ArrowLeft: -1 }[event.key];
+  if (!by) return;
+  const all = [...document.querySelectorAll('.tools button:enabled')].filter((it) => it.checkVisibility());
+  all.at((all.indexOf(document.activeElement) + by) % all.length).focus();
+  event.preventDefault();
+}
+
 function listen() {
   for (const it of document.querySelectorAll('[data-style]')) it.addEventListener('click', () => format(it.dataset.style));
   // a button of the tools leaves the selection in the text
@@ -387,17 +413,15 @@ function listen() {
   $('download').addEventListener('click', download);
   $('who').addEventListener('click', () => toggle('who', 'people') && showPeople());
   $('people').addEventListener('keydown', (event) => event.key === 'Escape' && toggle('who', 'people'));
-  $('past').addEventListener('click', () => (toggle('past', 'history') ? page.past.open(page.state.rev) : page.past.close()));
-  $('back').addEventListener('click', () => {
-    toggle('past', 'history');
-    page.past.close();
-    page.text.cm.focus();
-  });
+  $('past').addEventListener('click', togglePast);
+  $('back').addEventListener('click', togglePast);
+  $('history').addEventListener('keydown', (event) => event.key === 'Escape' && togglePast());
+  document.querySelector('.tools').addEventListener('keydown', stepThroughTools);
   addEventListener('pagehide', keepNow);
   document.addEventListener('visibilitychange', () => document.visibilityState === 'hidden' && keepNow());
   addEventListener('beforeunload', (event) => {
     if (isUnsaved()) keepNow();
-    if (isUnsaved() && !page.can.keep) event.preventDefault();
+    if (isUnsaved() && (page.cannotKeep || !page.can.keep)) event.preventDefault();
   });
   // the browser's own undo, as of its menu, would go past padedit
   page.text.cm.getInputField().addEventListener('beforeinput', (event) => {
