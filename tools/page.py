@@ -444,6 +444,19 @@ class Test:
         self.a.type("\n\n")
         self.agree("onex line\n\n\n")
 
+    def an_input_method(self):
+        """A word is composed while the other types in the same line."""
+        self.fresh("ab")
+        self.a.select(1, 0)
+        for composed in ("k", "か", "かn", "かん"):
+            self.a.here().execute_cdp_cmd("Input.imeSetComposition", {"text": composed, "selectionStart": len(composed),
+                                                                      "selectionEnd": len(composed)})
+            self.b.type("x")
+        self.a.here().execute_cdp_cmd("Input.insertText", {"text": "漢"})
+        text, _ = self.agree()
+        if sorted(text) != sorted("a漢xxxxb\n"):
+            raise Wrong(f"the text is {text!r}")
+
     def a_paste(self):
         """10,000 units are copied and pasted."""
         self.fresh("[]")
@@ -930,7 +943,7 @@ def change(server, pad, changeset, pairs):
     asyncio.run(make())
 
 
-POINTS = ["one_place", "both_ends", "an_emoji", "a_line_break", "a_paste", "bold_over_another", "undo", "a_cut", "a_kill",
+POINTS = ["one_place", "both_ends", "an_emoji", "a_line_break", "an_input_method", "a_paste", "bold_over_another", "undo", "a_cut", "a_kill",
           "no_server", "a_reader", "a_denied_pad", "userdup", "a_deletion", "slider", "a_reload", "own_tokens", "no_markup", "policy",
           "right_to_left", "keyboard", "start_page", "large",
           "firefox"]  # and "figures", which is only measured

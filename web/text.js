@@ -9,6 +9,8 @@ const RIGHT_TO_LEFT = /[\u0590-\u08ff\u200f\ufb1d-\ufdff\ufe70-\ufeff]|[\ud802\u
 const TELLING = 1000;
 /** CodeMirror reads what an input method wrote in this time. */
 const READ_IN = 120;
+/** An input method that does nothing for so long isn't waited for. */
+const LONGEST_WORD = 5000;
 
 const isBefore = (a, b) => a.line < b.line || (a.line === b.line && a.ch < b.ch);
 const isHigh = (unit) => unit >= 0xd800 && unit < 0xdc00;
@@ -20,7 +22,7 @@ export class PadText {
   #isTold = false; // the change that is made now was told, not typed
   #typed = []; // edits of the operation that is being made
   #next = null; // pairs for what is typed next at a place
-  #composing = 0; // an input method writes (Infinity), or what it wrote is read soon (a timer)
+  #composing = 0; // a timer, while an input method writes and until what it wrote is read
   own = []; // pairs of all that is typed here
 
   /**
@@ -57,21 +59,17 @@ export class PadText {
 
   /** An input method writes into the page's own elements, and CodeMirror reads it there soon after. */
   #watchComposing(input, settled) {
-    const begin = () => {
-      clearTimeout(this.#composing);
-      this.#composing = Infinity;
-    };
-    const end = () => {
+    const wait = (pause) => {
       clearTimeout(this.#composing);
       this.#composing = setTimeout(() => {
         this.#composing = 0;
         settled();
-      }, READ_IN);
+      }, pause);
     };
-    input.addEventListener('compositionstart', begin);
-    input.addEventListener('compositionend', end);
-    input.addEventListener('input', () => this.#composing !== Infinity && end());
-    input.addEventListener('blur', () => this.#composing === Infinity && end());
+    input.addEventListener('compositionstart', () => wait(LONGEST_WORD));
+    input.addEventListener('compositionupdate', () => wait(LONGEST_WORD));
+    input.addEventListener('compositionend', () => wait(READ_IN));
+    input.addEventListener('input', ({ isComposing }) => isComposing || wait(READ_IN));
   }
 
   /** Whether an input method writes now, so that nothing may be altered beside it. */
@@ -276,7 +274,7 @@ export class PadText {
   /** Whether all that is selected has a style; where nothing is, whether what is typed next has it. */
   isOn(style) {
     const [from, to] = [this.cm.getCursor('from'), this.cm.getCursor('to')];
-    if (!isBefore(from, to)) return this.#attrsForTyping(from, this.cm.indexFromPos(from), 0).has(style);
+    if (!isBefore(from, to)) return this.#attrsForTyping(from, this.#next && this.cm.indexFromPos(from), 0).has(style);
     for (const [line, a, b] of eachLine(from, to, (n) => this.cm.getLine(n).length)) {
       let covered = 0;
       for (const { from: f, to: t, attrs } of this.#stretches(line, a, b)) if (attrs.has(style)) covered += Math.min(t, b) - Math.max(f, a);
