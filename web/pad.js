@@ -86,10 +86,11 @@ async function edit(told) {
   keepSoon();
 }
 
+/** Sends what is due, which padedit knows: also what was sent before a connection was lost. */
 async function submit() {
   clearTimeout(page.timers.submit);
   page.timers.submit = 0;
-  if (!page.state.connected || page.state.waiting || !page.state.unsent) return;
+  if (!page.state.connected) return;
   const { send } = await ask({ do: 'submit' });
   if (!send) return;
   clearTimeout(page.timers.silence);
