@@ -704,7 +704,7 @@ class Test:
     def no_markup(self):
         """Text, attributes, a pad's name and an author's id never become markup; the page loads nothing from elsewhere."""
         bad = "<img src=x onerror=\"document.title='broken'\">"
-        pad = f"{bad} & pad"
+        pad = "<img src=x onerror=alert(1)> & a pad"
         self.server.api("createPad", padID=pad, text=bad)
         self.a.open(pad)
         self.b.open(pad)
@@ -781,6 +781,7 @@ class Test:
         field = self.a.here().find_element(By.ID, "wanted")
         field.send_keys("a name / of a pad?", Keys.ENTER)
         until(lambda: self.a.run("return document.title") == "a name / of a pad?", "the pad that was named")
+        self.a.here().get("about:blank")
         self.a.errors()
 
     def open_large(self):
@@ -869,9 +870,9 @@ def spread(figures):
     return f"{ordered[len(ordered) // 2]:.1f} ms ({ordered[len(ordered) * 95 // 100]:.1f})" if ordered else "none"
 
 
-def memory(driver):
-    """The memory of each page's process, as the kernel counts its share."""
-    parents, sizes = {}, []
+def processes(driver):
+    """The processes of the browser's pages."""
+    parents = {}
     for process in pathlib.Path("/proc").glob("[0-9]*"):
         try:
             parents[int(process.name)] = int((process / "stat").read_text().rpartition(")")[2].split()[1])
@@ -884,11 +885,16 @@ def memory(driver):
         process = pathlib.Path(f"/proc/{pid}")
         try:
             if above == driver.service.process.pid and b"--type=renderer" in (process / "cmdline").read_bytes():
-                told = (process / "smaps_rollup").read_text().splitlines()
-                sizes += [int(line.split()[1]) // 1024 for line in told if line.startswith("Pss:")]
+                yield process
         except OSError:
             pass
-    return ", ".join(f"{size} MB" for size in sorted(sizes, reverse=True))
+
+
+def memory(driver):
+    """The memory of each page's process, as the kernel counts its share."""
+    told = [line for process in processes(driver) for line in (process / "smaps_rollup").read_text().splitlines()]
+    sizes = sorted((int(line.split()[1]) // 1024 for line in told if line.startswith("Pss:")), reverse=True)
+    return ", ".join(f"{size} MB" for size in sizes)
 
 
 class Missing(Exception):

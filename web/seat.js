@@ -1,9 +1,11 @@
 // Who a window is: its token, of its own among the windows that show a pad, and what it keeps through a reload.
 //
 // A browser has tokens 0, 1, 2 .. in its storage. A window takes the first that no other window of the pad holds, and holds it
-// by a lock, which ends with the window. So a person stays one author, and a second window is another.
+// by a lock, which ends with the window. So a person stays one author, and a second window is another. Windows that read by a
+// read-only id have tokens apart: it is another name of a pad that this person may have open.
 
-const tokenKey = (seat) => `padd.token.${seat}`;
+const READ_ONLY = /^r\.[A-Za-z0-9]{16}$/;
+const tokenKey = (pad, seat) => `padd.${READ_ONLY.test(pad) ? 'reader' : 'token'}.${seat}`;
 const keptKey = (pad, seat) => `padd.kept.${seat}.${pad}`;
 const MOST = 20;
 /** A window that is loaded again waits so long for its own lock. */
@@ -54,9 +56,9 @@ export async function takeSeat(pad) {
   const seat = await sit(pad, local, session);
   const storage = seat === null ? session : local;
   const name = seat ?? 'only';
-  let token = storage.getItem(tokenKey(name)) ?? fresh();
+  const token = storage.getItem(tokenKey(pad, name)) ?? fresh();
   try {
-    storage.setItem(tokenKey(name), token);
+    storage.setItem(tokenKey(pad, name), token);
     if (seat !== null) session.setItem(`padd.seat.${pad}`, String(seat));
   } catch {
     // this window is somebody else each time
