@@ -510,6 +510,8 @@ class Test:
         self.b.select(3, 0)
         self.b.type("XYZ")
         self.agree("oneXYZ two three\n")
+        self.a.keys(Keys.CONTROL + "z")
+        self.agree("oneXYZ two \n")
         for _ in range(20):
             if self.a.run("return document.getElementById('undo').disabled"):
                 break

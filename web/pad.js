@@ -7,6 +7,8 @@ import { canRun, Program } from './program.js';
 import { takeSeat } from './seat.js';
 import { PadText } from './text.js';
 
+/** Keys with shorter pauses are typed in one go. */
+const ONE_GO = 1500;
 /** What is typed waits so long for more before it is sent. */
 const GATHERED = 100;
 /** What was sent is answered in this time, or the connection is taken for lost. */
@@ -45,6 +47,9 @@ const page = {
   isShown: false,
   can: { keep: false, slide: false },
   author: '',
+  undos: [], // of how many edits each step back consists, the next one last
+  redos: [],
+  typed: null, // the last edit
   inbox: [], // messages that weren't heard yet
   heardOf: new Map(), // when each other author wrote last
   refused: 0,
@@ -80,6 +85,7 @@ function apply({ change, pool }) {
 }
 
 async function edit(told) {
+  note(told);
   const reply = await ask({ do: 'edit', ...told });
   if (reply.refused) return fail(new Error(`an edit was refused: ${reply.refused}`));
   page.timers.submit ||= setTimeout(submit, GATHERED);
@@ -101,18 +107,41 @@ async function format(style) {
   const { text } = page;
   const isOn = !text.isOn(style);
   const { at, count } = text.selected;
-  if (count === 0) text.setNext(style, isOn);
-  else await ask({ do: 'format', at, count, key: style, value: isOn ? 'true' : '' }).then(() => submit());
+  if (count === 0) {
+    text.setNext(style, isOn);
+  } else {
+    page.undos.push(1);
+    [page.redos, page.typed] = [[], null];
+    await ask({ do: 'format', at, count, key: style, value: isOn ? 'true' : '' });
+    submit();
+  }
   showTools();
   text.cm.focus();
 }
 
+/** Takes back what was typed in one go, or makes it again: for padedit each key of it is a step. */
 async function undo(what) {
-  if (!page.state[what === 'undo' ? 'canUndo' : 'canRedo']) return;
-  const { place } = await ask({ do: what });
+  const [can, from, to] = what === 'undo' ? ['canUndo', 'undos', 'redos'] : ['canRedo', 'redos', 'undos'];
+  let place = null;
+  let made = 0;
+  for (let due = page[from].pop() ?? 1; due > 0 && page.state[can]; due--, made++) place = (await ask({ do: what })).place ?? place;
+  if (made) page[to].push(made);
+  page.typed = null;
   if (place) page.text.cm.setCursor(place);
   page.text.cm.focus();
   submit();
+}
+
+/** Notes an edit: a key that goes on with the word before it is undone with it. */
+function note({ at, drop, put }) {
+  const last = page.typed;
+  const goesOn =
+    last && performance.now() - last.when < ONE_GO && !(/\s$/.test(last.put) && /\S/.test(put)) && put.length < 2 && drop < 2 &&
+    (put ? at === last.end && !drop : !last.put && (at === last.end || at === last.end - 1));
+  if (goesOn) page.undos.push((page.undos.pop() ?? 0) + 1);
+  else page.undos.push(1);
+  page.redos = [];
+  page.typed = { when: performance.now(), end: at + put.length, put };
 }
 
 // ---- the connection
