@@ -649,16 +649,30 @@ class Test:
             time.sleep(0.2)
         if self.a.run("return document.getElementById('past').disabled") and not self.knows("slide"):
             raise Missing("this padedit has no slide: the button is disabled")
+        for n in range(130):
+            self.server.api("setText", padID=self.a.pad, text=f"revision\nby {'another ' * (n % 7)}program {n}")
+        self.a.wait("saved")
         head = self.server.api("getRevisionsCount", padID=self.a.pad)["revisions"]
+        until(lambda: self.a.run("return document.getElementById('slider').max") == str(head), "the slider has all revisions")
         self.a.click("#past")
+        slider = self.a.here().find_element(By.ID, "slider")
         then = "return document.querySelector('#then .CodeMirror')?.CodeMirror.getValue()"
-        for rev in range(head, -1, -1):
-            until(lambda: self.a.run(then) + "\n" == self.server.api("getText", padID=self.a.pad, rev=rev)["text"],
-                  f"the text of revision {rev}")
-            self.a.here().find_element(By.ID, "slider").send_keys(Keys.ARROW_LEFT)
+        shows = lambda rev: until(lambda: self.a.run(then) + "\n" == self.server.api("getText", padID=self.a.pad, rev=rev)["text"],
+                                  f"the text of revision {rev}")
+        for rev in range(head, head - 5, -1):
+            shows(rev)
+            slider.send_keys(Keys.ARROW_LEFT)
         self.shoot("slider")
+        slider.send_keys(Keys.HOME)
+        for rev in range(6):
+            shows(rev)
+            slider.send_keys(Keys.ARROW_RIGHT)
+        slider.send_keys(Keys.END)
+        shows(head)
+        slider.send_keys(*[Keys.ARROW_LEFT] * 6)
+        shows(head - 6)
         self.a.click("#play")
-        until(lambda: self.a.run(then) == self.a.shown()[0][:-1], "it played to the end")
+        shows(head)
         self.a.click("#back")
         self.agree()
 
