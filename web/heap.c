@@ -15,6 +15,11 @@ long __write(int to, const void *at, size count) { return host_write(to, at, cou
 long lseek(int file, long by, int from) { return -1; }
 int rattle_errno(void) { return 29; } // ESPIPE
 long __sysv_signal(int signal, long handler) { return 0; }
+// A proved program first asks whether the processor has what it was built for: yes.
+const void *__x86_get_cpuid_feature_leaf(unsigned leaf) {
+    static const unsigned all[8] = {~0u, ~0u, ~0u, ~0u, ~0u, ~0u, ~0u, ~0u};
+    return all;
+}
 int __xpg_strerror_r(int error, char *into, size room) {
     if (room) *into = 0;
     return 0;
