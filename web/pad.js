@@ -155,8 +155,8 @@ function opened() {
 
 /** The sessions of groups that this person has, as Etherpad's cookie names them. */
 function sessions() {
-  const found = /(?:^|; )sessionID=([^;]*)/.exec(document.cookie);
-  return found ? decodeURIComponent(found[1]).replaceAll('"', '').split(',').filter(Boolean) : [];
+  const [, told = ''] = /(?:^|; )sessionID=([^;]*)/.exec(document.cookie) ?? [];
+  return told.replace(/%2c/gi, ',').replace(/"|%22/g, '').split(',').filter(Boolean);
 }
 
 /** Messages wait while an input method writes. */
