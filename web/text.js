@@ -7,6 +7,8 @@ import { lengthsOf, stepsOf, stretchesOf } from './changeset.js';
 const RIGHT_TO_LEFT = /[\u0590-\u08ff\u200f\ufb1d-\ufdff\ufe70-\ufeff]|[\ud802\ud803\ud83a\ud83b][\udc00-\udfff]/;
 /** So many units tell which way a text runs. */
 const TELLING = 1000;
+/** So many lines of a selection tell which styles it has. */
+const LINES_LOOKED_AT = 200;
 /** CodeMirror reads what an input method wrote in this time. */
 const READ_IN = 120;
 /** An input method that does nothing for so long isn't waited for. */
@@ -271,11 +273,12 @@ export class PadText {
     return { at: from, count: this.cm.indexFromPos(this.cm.getCursor('to')) - from };
   }
 
-  /** Whether all that is selected has a style; where nothing is, whether what is typed next has it. */
+  /** Whether all that is selected has a style, by its first lines; where nothing is, whether what is typed next has it. */
   isOn(style) {
     const [from, to] = [this.cm.getCursor('from'), this.cm.getCursor('to')];
     if (!isBefore(from, to)) return this.#attrsForTyping(from, this.#next && this.cm.indexFromPos(from), 0).has(style);
     for (const [line, a, b] of eachLine(from, to, (n) => this.cm.getLine(n).length)) {
+      if (line > from.line + LINES_LOOKED_AT) return true;
       let covered = 0;
       for (const { from: f, to: t, attrs } of this.#stretches(line, a, b)) if (attrs.has(style)) covered += Math.min(t, b) - Math.max(f, a);
       if (covered < b - a) return false;
