@@ -497,7 +497,6 @@ class Test:
         self.server.api("createPad", padID=pad, text=text)
         change(self.server, pad, large_change(text), [["bold", "true"]])
         for window in (self.a, self.b):
-            window.here().execute_cdp_cmd("Page.addScriptToEvaluateOnNewDocument", {"source": OPENED})
             window.open(pad)
         return text
 
@@ -541,12 +540,6 @@ class Test:
             done((await program.ask({ do: arguments[0] })).refused !== 'shape do');
           });""", request)
 
-
-OPENED = """
-new MutationObserver(() => {
-  if (document.documentElement?.dataset.phase === 'saved') window.openedAfter ??= performance.now();
-}).observe(document, { attributes: true, subtree: true, attributeFilter: ['data-phase'] });
-"""
 
 # Each key of this window: when it was pressed, until the text has it, until the next frame is made. Each change of another's:
 # when the next frame is made.

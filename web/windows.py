@@ -213,6 +213,14 @@ def vars_of(server, pad, token="t.look"):
     return asyncio.run(enter())
 
 
+# notes when the text is there
+OPENED = """
+new MutationObserver(() => {
+  if (document.documentElement?.dataset.phase === 'saved') window.openedAfter ??= performance.now();
+}).observe(document, { attributes: true, subtree: true, attributeFilter: ['data-phase'] });
+"""
+
+
 class Window:
     """A window of the browser that shows a pad, behind a wire of its own."""
 
@@ -221,6 +229,7 @@ class Window:
         self.wire = Wire(server.ports[0])
         driver.switch_to.new_window("window")
         self.handle = driver.current_window_handle
+        driver.execute_cdp_cmd("Page.addScriptToEvaluateOnNewDocument", {"source": OPENED})
 
     def here(self):
         if self.driver.current_window_handle != self.handle:
