@@ -1,7 +1,7 @@
 //! Who comes to a server.
 
 use crate::asked::{Ask, ask_at};
-use crate::turn::words_of;
+use crate::turn::{TURNS, words_of};
 use ep_real::{Missing, run_words};
 use std::alloc::AllocError;
 use std::fs::{File, Files};
@@ -19,14 +19,11 @@ pub struct Doorways {
     pub api: SocketAddr,
 }
 
-/// A writer of standard input's lines comes, then one request after the other. Answers what the requests were told, and
+const NOTHING: &[Ask] = &[];
+
+/// A writer of standard input's lines comes to the server of this number, then one request after the other. Answers what the requests were told, and
 /// the status of the writer, which says itself what it wrote.
-pub fn visit<R>(
-    rt: R,
-    files: HostRuntime,
-    ways: Doorways,
-    asks: &'static [Ask],
-) -> Result<String, Missing>
+pub fn visit<R>(rt: R, files: HostRuntime, ways: Doorways, number: usize) -> Result<String, Missing>
 where
     R: Wait
         + Threads
@@ -48,6 +45,7 @@ where
     let words = words_of(alloc, &["write", address.as_str(), "p", "t"])?;
     let wrote = run_words(rt, files, false, &words)?;
     let mut lines = format!(in alloc; "write: {}\n", wrote.code)?;
+    let asks = TURNS.get(number).map_or(NOTHING, |turn| turn.asks);
     ask_all(&rt, ways.api, asks, &mut lines)?;
     Ok(lines)
 }

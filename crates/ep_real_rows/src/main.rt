@@ -7,57 +7,12 @@ mod asked;
 mod callers;
 mod turn;
 
-use crate::asked::Ask;
 use crate::callers::visit;
-use crate::turn::{Stands, Turn, judge, stand, told, words_of};
+use crate::turn::{Stands, TURNS, judge, stand, told, words_of};
 use ep_doors::start_all;
 use ep_real::{Beside, Missing, run_begun};
 use ep_run::Status;
 use std::{fs, io, thread};
-
-// The system chooses the port.
-const ANY: &str = "127.0.0.1:0";
-
-/// The first server: its key, and one that is wrong; and a text of a million units, and one of a unit more.
-const FIRST: &[Ask] = &[
-    ("getText", "apikey=one&padID=p", 0),
-    ("getText", "apikey=two&padID=p", 0),
-    ("createGroup", "apikey=one", 0),
-    ("createPad", "apikey=one&padID=q&text=", 999_999),
-    ("setText", "apikey=one&padID=q&text=", 1_000_000),
-];
-
-/// The second one, whose key is the first line of a file.
-const SECOND: &[Ask] = &[
-    ("getText", "apikey=two&padID=p", 0),
-    ("getText", "apikey=one&padID=p", 0),
-    ("getText", "apikey=%40key&padID=p", 0),
-    ("listAllGroups", "apikey=two", 0),
-    ("getRevisionsCount", "apikey=two&padID=q", 0),
-];
-
-const TURNS: &[Turn] = &[
-    Turn {
-        words: ["serve", ANY, ANY, "pads", "one"],
-        asks: FIRST,
-    },
-    Turn {
-        words: ["serve", ANY, ANY, "pads", "@key"],
-        asks: SECOND,
-    },
-    Turn {
-        words: ["serve", ANY, ANY, "pads", "@nokey"],
-        asks: &[],
-    },
-    Turn {
-        words: ["serve", ANY, ANY, "nowhere", "one"],
-        asks: &[],
-    },
-    Turn {
-        words: ["serve", ANY, "nowhere", "pads", "one"],
-        asks: &[],
-    },
-];
 
 fn print_lines(rt: &HostRuntime, lines: Result<String, Missing>) -> io::Result<()> {
     match lines {
@@ -78,12 +33,11 @@ fn print_status(rt: &HostRuntime, status: Result<Status, Missing>) -> io::Result
 fn main(rt: HostRuntime) -> io::Result<()> {
     fs::create_dir(&rt, "pads")?;
     fs::write(&rt, "key", "two\none\n")?;
-    for turn in TURNS {
+    for (number, turn) in TURNS.iter().enumerate() {
         let [_, _, _, folder, key] = turn.words;
         println!(rt; "serve {folder} {key}")?;
         let words = words_of(rt.alloc(), &turn.words)?;
-        let asks = turn.asks;
-        let (stands, beside) = match stand(rt, rt, &words, asks) {
+        let (stands, beside) = match stand(rt, rt, &words, turn.asks) {
             Ok(begun) => begun,
             Err(missing) => {
                 print_lines(&rt, Err(missing))?;
@@ -97,7 +51,7 @@ fn main(rt: HostRuntime) -> io::Result<()> {
         } = stands;
         let Beside { starter, database } = beside;
         let starting = thread::spawn(&rt, move || start_all(&rt, starter))?;
-        let callers = thread::spawn(&rt, move || visit(rt, rt, ways, asks))?;
+        let callers = thread::spawn(&rt, move || visit(rt, rt, ways, number))?;
         let ended = run_begun(rt, false, &words, begun, &mut doors);
         starting.join(&rt);
         let lines = told(&rt, rt.alloc(), callers, ended);

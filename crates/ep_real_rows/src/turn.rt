@@ -19,6 +19,51 @@ pub struct Turn {
     pub asks: &'static [Ask],
 }
 
+// The system chooses the port.
+const ANY: &str = "127.0.0.1:0";
+
+/// The first server: its key, and one that is wrong; and a text of a million units, and one of a unit more.
+const FIRST: &[Ask] = &[
+    ("getText", "apikey=one&padID=p", 0),
+    ("getText", "apikey=two&padID=p", 0),
+    ("createGroup", "apikey=one", 0),
+    ("createPad", "apikey=one&padID=q&text=", 999_999),
+    ("setText", "apikey=one&padID=q&text=", 1_000_000),
+];
+
+/// The second one, whose key is the first line of a file.
+const SECOND: &[Ask] = &[
+    ("getText", "apikey=two&padID=p", 0),
+    ("getText", "apikey=one&padID=p", 0),
+    ("getText", "apikey=%40key&padID=p", 0),
+    ("listAllGroups", "apikey=two", 0),
+    ("getRevisionsCount", "apikey=two&padID=q", 0),
+];
+
+/// The servers that are begun, one after the other.
+pub const TURNS: &[Turn] = &[
+    Turn {
+        words: ["serve", ANY, ANY, "pads", "one"],
+        asks: FIRST,
+    },
+    Turn {
+        words: ["serve", ANY, ANY, "pads", "@key"],
+        asks: SECOND,
+    },
+    Turn {
+        words: ["serve", ANY, ANY, "pads", "@nokey"],
+        asks: &[],
+    },
+    Turn {
+        words: ["serve", ANY, ANY, "nowhere", "one"],
+        asks: &[],
+    },
+    Turn {
+        words: ["serve", ANY, "nowhere", "pads", "one"],
+        asks: &[],
+    },
+];
+
 /// Words as the program is given them.
 pub fn words_of(alloc: Global, words: &[&str]) -> Result<Vec<String>, AllocError> {
     let mut given = Vec::new(alloc);

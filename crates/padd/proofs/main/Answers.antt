@@ -4,4 +4,4 @@ use Rattle.ep_real.proofs.Sends.{job_sends, starter_sends}
 use Rattle.padd.proofs.main.Goals as goal
 
 pub spawn-requires-send-F : goal.spawn-requires-send-F
-spawn-requires-send-F g c κs within = search (sendable, crosses, job_sends, starter_sends) depth 100 fits 1000000
+spawn-requires-send-F g c κs = search (sendable, crosses, job_sends, starter_sends) depth 100 fits 1000000
