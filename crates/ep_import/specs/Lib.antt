@@ -1,0 +1,5 @@
+pub mod Places
+pub mod Answer
+pub mod Imported
+pub mod Seen
+pub mod Steps
