@@ -4,3 +4,4 @@ pub mod Lists
 pub mod Births
 pub mod Told
 pub mod Exportable
+pub mod Once

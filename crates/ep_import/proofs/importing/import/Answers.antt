@@ -1,4 +1,6 @@
+use Rattle.std.proofs.Common.{◌∙◌}
 use Rattle.std.proofs.lemmas.Result.{err_from_is_err_and}
+use Rattle.serde_json.specs.View.{view}
 use Rattle.ep_import.proofs.Told.{answer_births, import_answers, import_no_json}
 use Rattle.ep_import.proofs.importing.import.Goals as goal
 
@@ -8,7 +10,9 @@ returns-in_err-value-clause-answer c =
     rw (p.1, p.2) (import_no_json c.args.pad.now c.args.text.now c.in_err-value.field-0.0 c.in_err-value.ensures)
 
 pub returns-clause-answer : goal.returns-clause-answer
-returns-clause-answer c = let a = c.object.ensures in let v = c.in_ok-value.ensures in let k = c.in_ok-key.ensures in let s = c.as_str in ?
+returns-clause-answer c = import_answers c.args.pad.now c.args.text.now _ (view c.in_ok-value.value) _ c.in_ok-value.ensures (c.as_str.ensures.value ∙ c.in_ok-key.ensures) c.object.ensures
 
 pub returns-clause-revisions : goal.returns-clause-revisions
-returns-clause-revisions c = let a = c.object.ensures in ?
+returns-clause-revisions c =
+    answer_births c.args.pad.now c.args.text.now _
+    (import_answers c.args.pad.now c.args.text.now _ (view c.in_ok-value.value) _ c.in_ok-value.ensures (c.as_str.ensures.value ∙ c.in_ok-key.ensures) c.object.ensures)
