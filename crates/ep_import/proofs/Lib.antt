@@ -1,5 +1,7 @@
 pub mod Refused
 pub mod Following
+pub mod Members
+pub mod Said
 pub mod Lists
 pub mod Births
 pub mod Told

@@ -46,6 +46,7 @@ fn json(alloc: Global, text: &str) -> Result<Value, ImportBad>
 }
 
 /// Whether a text with these attributes is a document.
+#[tactic(auto, using(crate::proofs::Told::text_refused))]
 fn is_text(
     alloc: Global,
     pool: &Pool,
@@ -68,6 +69,7 @@ fn is_text(
 }
 
 /// The history, where the attributed text is its last document.
+#[tactic(auto, using(crate::proofs::Told::compares_same, crate::proofs::Told::compares_other))]
 fn compared(
     alloc: Global,
     pool: &Pool,
@@ -102,6 +104,7 @@ fn rest(
 }
 
 /// The history that the object says.
+#[tactic(auto, using(crate::proofs::Told::object_no_pool))]
 fn object(alloc: Global, value: &Value, key: &str) -> Result<History, ImportBad>
     ensures { Answers said (ReadsObject key.now (view value.now)) result }
 {

@@ -17,6 +17,7 @@ use ep_wire_words::members::units_from;
 use std::alloc::Global;
 
 /// The revision that a row says with a pool.
+#[tactic(auto, using(crate::proofs::Said::rev_said, crate::proofs::Said::rev_unsaid))]
 fn rev_of(alloc: Global, row: &Row<'_>, pool: &Pool) -> Result<Option<Rev>, NoMemory>
     ensures { IfOk result (λ rev. rev ≡ rev_of pool.now.pairs (row_view row.now)) }
 {
@@ -35,6 +36,7 @@ fn rev_of(alloc: Global, row: &Row<'_>, pool: &Pool) -> Result<Option<Rev>, NoMe
 }
 
 /// These revisions, and the one that a row says.
+#[tactic(auto, using(crate::proofs::Said::follows_some, crate::proofs::Said::follows_unsaid, crate::proofs::Said::follows_unstood))]
 fn followed(alloc: Global, replay: Replay, row: &Row<'_>, pool: &Pool) -> Result<Replay, ImportBad>
     ensures { Answers revs_of (Follows pool.now.pairs (revs_of replay) (row_view row.now)) result }
 {
@@ -49,6 +51,7 @@ fn followed(alloc: Global, replay: Replay, row: &Row<'_>, pool: &Pool) -> Result
 }
 
 /// The last revision leaves a final newline.
+#[tactic(auto, using(crate::proofs::Said::ends_well, crate::proofs::Said::ends_badly))]
 fn ended(replay: Replay) -> Result<Replay, ImportBad>
     ensures { Answers revs_of (Ends (revs_of replay)) result }
 {
