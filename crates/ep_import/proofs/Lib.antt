@@ -1,6 +1,6 @@
 pub mod Refused
 pub mod Following
-pub mod Members
+pub mod Sessions
 pub mod Said
 pub mod Lists
 pub mod Births

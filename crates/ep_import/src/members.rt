@@ -71,7 +71,7 @@ pub fn whole(value: &Value, name: &str, place: Place) -> Result<u64, ImportBad>
 }
 
 /// A session.
-#[tactic(auto, using(crate::proofs::Members::session_there, crate::proofs::Members::session_missing))]
+#[tactic(auto, using(crate::proofs::Sessions::session_there, crate::proofs::Sessions::session_missing))]
 pub fn session(value: &Value, place: Place) -> Result<Session, ImportBad>
     ensures { Gives (λ s. s) result (needed session (codes "session") place (view value.now)) }
 {
