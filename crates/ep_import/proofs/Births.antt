@@ -27,7 +27,7 @@ some_rows (Ok r) rest rows e = go (rest r) e
 
 compared_revs : (pairs : List Pair) (f : Front) (s : Said) (public : Bool) (vs : List Rev) → Compares pairs f public vs (Ok s) → s.revs ≡ vs
 compared_revs pairs f s public vs (inl (is, e)) = let same : s ≡ record { revs = vs; public = public } = cc in ap (λ (x : Said). x.revs) same
-compared_revs pairs f s public vs (inr (no, e)) = absurd cc
+compared_revs pairs f s public vs (inr (never, e)) = absurd cc
 
 told_births : (f : Front) (pairs : List Pair) (public : Bool) (rows : List Row) (s : Said) → (r : Row) (rs : List Row) → rows ≡ r ∷ rs → Told f pairs public rows (Ok s) → AreRevisions s.revs
 told_births f pairs public rows s r rs some (revs, replays, h) =

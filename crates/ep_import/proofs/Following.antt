@@ -17,12 +17,12 @@ use Rattle.ep_import.specs.Steps.{Follows}
 
 -- a row that stands, and then the others
 pub follows_on : (pairs : List Pair) (vs : List Rev) (r : Row) (rs : List Row) (ws : List Rev) → Follows pairs vs r (Ok ws) → (read : Result (List Rev) ImportBad) → Replays pairs ws rs read → Replays pairs vs (r ∷ rs) read
-follows_on pairs vs r rs ws (inl (v, (s, e))) read h = let same : ws ≡ vs ++ v ∷ [] = cc in inl (v, (s, subst (λ us. Replays pairs us rs read) same h))
+follows_on pairs vs r rs ws (inl (v, s, e)) read h = let same : ws ≡ vs ++ v ∷ [] = cc in inl (v, s, subst (λ us. Replays pairs us rs read) same h)
 follows_on pairs vs r rs ws (inr (none, e)) read h = absurd cc
 
 -- a row that doesn't
 pub follows_not : (pairs : List Pair) (vs : List Rev) (r : Row) (rs : List Row) (why : ImportBad) → Follows pairs vs r (Err why) → Replays pairs vs (r ∷ rs) (Err why)
-follows_not pairs vs r rs why (inl (v, (s, e))) = absurd cc
+follows_not pairs vs r rs why (inl (v, s, e)) = absurd cc
 follows_not pairs vs r rs why (inr (none, e)) = inr (none, e)
 
 -- where no revision is said, none stands
@@ -31,7 +31,7 @@ says_none pairs vs r e v s = let both : Some v ≡ None = sym s.0 ∙ e in absur
 
 -- where the one that is said may not stand, none does
 pub stands_none : (pairs : List Pair) (vs : List Rev) (r : Row) (v : Rev) → rev_of pairs r ≡ Some v → (MayStand vs v → ⊥) → StandsNone pairs vs r
-stands_none pairs vs r v e no w s = let both : Some w ≡ Some v = sym s.0 ∙ e in let same : w ≡ v = cc in no (subst (λ u. MayStand vs u) same s.1)
+stands_none pairs vs r v e never w s = let both : Some w ≡ Some v = sym s.0 ∙ e in let same : w ≡ v = cc in never (subst (λ u. MayStand vs u) same s.1)
 
 -- rows that were replayed stand, one behind another, and the last document ends in a newline
 pub record AreReplayed (vs : List Rev) (rows : List Row) (ws : List Rev) : Type 0 where
@@ -46,7 +46,7 @@ replayed_stand pairs vs [] ws (inl (line, e)) =
     let same : ws ≡ vs = cc in
     record { rest = []; all = same ∙ sym (append-nil vs); stand = tt; as_many = refl; ends = ap (λ us. lacks_newline (made newline us)) same ∙ line }
 replayed_stand pairs vs [] ws (inr (line, e)) = absurd cc
-replayed_stand pairs vs (r ∷ rs) ws (inl (v, (s, h))) =
+replayed_stand pairs vs (r ∷ rs) ws (inl (v, s, h)) =
     let more = replayed_stand pairs (vs ++ v ∷ []) rs ws h in
     record { rest = v ∷ more.rest; all = more.all ∙ append_assoc vs (v ∷ []) more.rest; stand = (s.1, more.stand); as_many = ap suc more.as_many; ends = more.ends }
 replayed_stand pairs vs (r ∷ rs) ws (inr (none, e)) = absurd cc
@@ -64,21 +64,24 @@ replayed_births pairs r rs ws h = go (replayed_stand pairs [] (r ∷ rs) ws h)
 
 -- ---- rows of which some were replayed
 
-rows_drop : (rows : List declared_row.Row) (i : ℕ) (row : declared_row.Row) → i < length rows → row ≡ get_or rows i row → row_views (drop i rows) ≡ row_view row ∷ row_views (drop (i + 1) rows)
-rows_drop rows i row l e = ap row_views (drop_more rows i row l) ∙ ap (λ (r : declared_row.Row). row_view r ∷ row_views (drop (i + 1) rows)) (sym e)
+-- the first of the rows from a place on
+abbrev pub IsRow : List declared_row.Row → ℕ → Row → Type 0
+IsRow rows i r = row_views (drop i rows) ≡ r ∷ row_views (drop (i + 1) rows)
+
+pub row_at_place : (rows : List declared_row.Row) (i : ℕ) (d : declared_row.Row) → i < length rows → IsRow rows i (row_view (get_or rows i d))
+row_at_place rows i d l = ap row_views (drop_more rows i d l)
 
 -- what the whole answers, where the rest from a row on is replayed behind these revisions
 abbrev pub Remains : List Pair → List declared_row.Row → ℕ → List Rev → Type 0
 Remains pairs rows i vs = (read : Result (List Rev) ImportBad) → Replays pairs vs (row_views (drop i rows)) read → Replays pairs [] (row_views rows) read
 
-pub remains_next : (pairs : List Pair) (rows : List declared_row.Row) (i : ℕ) (row : declared_row.Row) (vs ws : List Rev) → Remains pairs rows i vs → i < length rows → row ≡ get_or rows i row → Follows pairs vs (row_view row) (Ok ws)
-    → Remains pairs rows (i + 1) ws
-remains_next pairs rows i row vs ws remains l e f read h =
-    remains read (subst (λ (rs : List Row). Replays pairs vs rs read) (sym (rows_drop rows i row l e)) (follows_on pairs vs (row_view row) (row_views (drop (i + 1) rows)) ws f read h))
+pub remains_next : (pairs : List Pair) (rows : List declared_row.Row) (i : ℕ) (r : Row) (vs ws : List Rev) → Remains pairs rows i vs → IsRow rows i r → Follows pairs vs r (Ok ws) → Remains pairs rows (i + 1) ws
+remains_next pairs rows i r vs ws remains is f read h =
+    remains read (subst (λ (rs : List Row). Replays pairs vs rs read) (sym is) (follows_on pairs vs r (row_views (drop (i + 1) rows)) ws f read h))
 
 -- a row that doesn't stand is what the whole refuses
-pub remains_stop : (pairs : List Pair) (rows : List declared_row.Row) (i : ℕ) (row : declared_row.Row) (vs : List Rev) (why : ImportBad) → Remains pairs rows i vs → i < length rows → row ≡ get_or rows i row
-    → Answers revs_of (Follows pairs vs (row_view row)) (Err why) → Answers revs_of (Replays pairs [] (row_views rows)) (Err why)
-remains_stop pairs rows i row vs bad.NoMemory remains l e f = tt
-remains_stop pairs rows i row vs why remains l e f =
-    remains (Err why) (subst (λ (rs : List Row). Replays pairs vs rs (Err why)) (sym (rows_drop rows i row l e)) (follows_not pairs vs (row_view row) (row_views (drop (i + 1) rows)) why f))
+pub remains_stop : (pairs : List Pair) (rows : List declared_row.Row) (i : ℕ) (r : Row) (vs : List Rev) (why : ImportBad) → Remains pairs rows i vs → IsRow rows i r → Answers revs_of (Follows pairs vs r) (Err why)
+    → Answers revs_of (Replays pairs [] (row_views rows)) (Err why)
+remains_stop pairs rows i r vs bad.NoMemory remains is f = tt
+remains_stop pairs rows i r vs why remains is f =
+    remains (Err why) (subst (λ (rs : List Row). Replays pairs vs rs (Err why)) (sym is) (follows_not pairs vs r (row_views (drop (i + 1) rows)) why f))

@@ -26,7 +26,7 @@ pool_once d (Err e) (Ok qs) h k = absurd (pools.either d qs e k.1 k.0 h)
 pool_once d (Err e) (Err f) h k = ap Err (pools.one_cause d e f h k)
 
 with_once : {A : Type 0} (d : Data) (Next : List Pair → Result A ImportBad → Type 0) → ((pairs : List Pair) → HasOne (Next pairs)) → HasOne (WithPool d Next)
-with_once d Next once a b (r, (h, k)) (s, (l, m)) = then_once (of_pool r) Next once a b k (subst (λ t. Then (of_pool t) Next b) (pool_once d s r l h) m)
+with_once d Next once a b (r, h, k) (s, l, m) = then_once (of_pool r) Next once a b k (subst (λ t. Then (of_pool t) Next b) (pool_once d s r l h) m)
 
 ends_once : (vs : List Rev) → HasOne (Ends vs)
 ends_once vs a b (inl (line, e)) (inl (also, f)) = e ∙ sym f
@@ -36,22 +36,22 @@ ends_once vs a b (inr (line, e)) (inr (also, f)) = e ∙ sym f
 
 replays_once : (pairs : List Pair) (vs : List Rev) (rows : List Row) → HasOne (Replays pairs vs rows)
 replays_once pairs vs [] a b h k = ends_once vs a b h k
-replays_once pairs vs (r ∷ rs) a b (inl (v, (s, h))) (inl (w, (t, k))) =
+replays_once pairs vs (r ∷ rs) a b (inl (v, s, h)) (inl (w, t, k)) =
     let both : Some w ≡ Some v = sym t.0 ∙ s.0 in
     let same : w ≡ v = cc in
     replays_once pairs (vs ++ v ∷ []) rs a b h (subst (λ x. Replays pairs (vs ++ x ∷ []) rs b) same k)
-replays_once pairs vs (r ∷ rs) a b (inl (v, (s, h))) (inr (none, f)) = absurd (none v s)
-replays_once pairs vs (r ∷ rs) a b (inr (none, e)) (inl (w, (t, k))) = absurd (none w t)
+replays_once pairs vs (r ∷ rs) a b (inl (v, s, h)) (inr (none, f)) = absurd (none v s)
+replays_once pairs vs (r ∷ rs) a b (inr (none, e)) (inl (w, t, k)) = absurd (none w t)
 replays_once pairs vs (r ∷ rs) a b (inr (none, e)) (inr (also, f)) = e ∙ sym f
 
 compares_once : (pairs : List Pair) (f : Front) (public : Bool) (vs : List Rev) → HasOne (Compares pairs f public vs)
 compares_once pairs f public vs a b (inl (is, e)) (inl (also, g)) = e ∙ sym g
-compares_once pairs f public vs a b (inl (is, e)) (inr (no, g)) = absurd (no is)
-compares_once pairs f public vs a b (inr (no, e)) (inl (is, g)) = absurd (no is)
-compares_once pairs f public vs a b (inr (no, e)) (inr (also, g)) = e ∙ sym g
+compares_once pairs f public vs a b (inl (is, e)) (inr (never, g)) = absurd (never is)
+compares_once pairs f public vs a b (inr (never, e)) (inl (is, g)) = absurd (never is)
+compares_once pairs f public vs a b (inr (never, e)) (inr (also, g)) = e ∙ sym g
 
 told_once : (f : Front) (pairs : List Pair) (public : Bool) (rows : List Row) → HasOne (Told f pairs public rows)
-told_once f pairs public rows a b (r, (h, k)) (s, (l, m)) =
+told_once f pairs public rows a b (r, h, k) (s, l, m) =
     then_once r (Compares pairs f public) (compares_once pairs f public) a b k (subst (λ t. Then t (Compares pairs f public) b) (replays_once pairs [] rows s r l h) m)
 
 rest_once : (key : List ℕ) (d : Data) (f : Front) (pairs : List Pair) → HasOne (Rest key d f pairs)

@@ -31,13 +31,13 @@ pub rev_unsaid : (pairs : List Pair) (r : Row) (text : Text) (why : ReadBad) →
 rev_unsaid pairs r text why t other is = sym (ap (rev_with r) (ap (reading pairs) (sym t) ∙ not_read pairs text why other is))
 
 pub follows_some : (pairs : List Pair) (vs ws : List Rev) (r : Row) (v : Rev) → Some v ≡ rev_of pairs r → MayStand vs v → ws ≡ vs ++ v ∷ [] → Follows pairs vs r (Ok ws)
-follows_some pairs vs ws r v said may is = inl (v, ((sym said, may), ap Ok is))
+follows_some pairs vs ws r v said may is = inl (v, (sym said, may), ap Ok is)
 
 pub follows_unsaid : (pairs : List Pair) (vs : List Rev) (r : Row) (n : ℕ) → None ≡ rev_of pairs r → n ≡ length vs → Follows pairs vs r (Err (bad.Revision n))
 follows_unsaid pairs vs r n said is = inr (says_none pairs vs r (sym said), ap (λ k. Err (bad.Revision k)) is)
 
 pub follows_unstood : (pairs : List Pair) (vs : List Rev) (r : Row) (v : Rev) (n : ℕ) → Some v ≡ rev_of pairs r → (MayStand vs v → ⊥) → n ≡ length vs → Follows pairs vs r (Err (bad.Revision n))
-follows_unstood pairs vs r v n said no is = inr (stands_none pairs vs r v (sym said) no, ap (λ k. Err (bad.Revision k)) is)
+follows_unstood pairs vs r v n said never is = inr (stands_none pairs vs r v (sym said) never, ap (λ k. Err (bad.Revision k)) is)
 
 pub ends_well : (vs : List Rev) (doc : Doc) (b : Bool) → doc ≡ made newline vs → (IsTrue b ↔ (lacks_newline doc ≡ false)) → b ≡ true → Ends vs (Ok vs)
 ends_well vs doc b is told t = inl (sym (ap lacks_newline is) ∙ told.0 t, refl)

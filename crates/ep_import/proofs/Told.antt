@@ -26,6 +26,7 @@ use Rattle.ep_import.specs.declared.history.History.{History}
 use Rattle.ep_import.specs.Answer.{Answers, IsRefused, Then}
 use Rattle.ep_import.specs.Imported.{Compares, Front, Imports, IsText, ReadsObject, Replays, Rest, Row, Said, Told, WithPool, front_in, json_in, public_in, rows_from}
 use Rattle.ep_import.specs.Seen.{revs_of, said}
+use Rattle.ep_import.specs.Steps.{pool_refusal}
 use Rattle.ep_import.proofs.Births.{imported_births}
 use Rattle.ep_import.proofs.Refused.{answers_map, behind, pool_answers, pool_refused, step_refused}
 
@@ -70,9 +71,14 @@ rest_answers key d f pairs public count rows vs answer is counted read replays h
 pub object_no_front : (key : List ℕ) (d : Data) (why : ImportBad) → IsRefused why (front_in key d) → Answers said (ReadsObject key d) (Err why)
 object_no_front key d why is = step_refused said (front_in key d) (λ f. WithPool f.pool (Rest key d f)) why is
 
-pub object_no_pool : (key : List ℕ) (d : Data) (f : Front) (why : PoolBad) → front_in key d ≡ Ok f → (why ≡ pool_bad.NoMemory → ⊥) → (why ≡ pool_bad.NoMemory) ⊎ IsBadAs f.pool why → Answers said (ReadsObject key d) (Err (bad.Shape place.Pool))
-object_no_pool key d f why is other (inl none) = absurd (other none)
-object_no_pool key d f why is other (inr cause) = behind said (front_in key d) (λ f. WithPool f.pool (Rest key d f)) f (Err (bad.Shape place.Pool)) is (pool_refused said f.pool (Rest key d f) why cause)
+pub object_no_pool : (key : List ℕ) (d : Data) (f : Front) (why : PoolBad) (refusal : ImportBad) → front_in key d ≡ Ok f → refusal ≡ pool_refusal why → (why ≡ pool_bad.NoMemory) ⊎ IsBadAs f.pool why
+    → Answers said (ReadsObject key d) (Err refusal)
+object_no_pool key d f why refusal is made cause = subst (λ (e : ImportBad). Answers said (ReadsObject key d) (Err e)) (sym made) (by why cause)
+  where
+    by : (why : PoolBad) → (why ≡ pool_bad.NoMemory) ⊎ IsBadAs f.pool why → Answers said (ReadsObject key d) (Err (pool_refusal why))
+    by pool_bad.NoMemory cause = tt
+    by why (inl none) = absurd cc
+    by why (inr cause) = behind said (front_in key d) (λ f. WithPool f.pool (Rest key d f)) f (Err (bad.Shape place.Pool)) is (pool_refused said f.pool (Rest key d f) why cause)
 
 pub object_answers : (key : List ℕ) (d : Data) (f : Front) (pairs : List Pair) (answer : Result History ImportBad) → front_in key d ≡ Ok f → IsPoolRead f.pool (Ok pairs) → Answers said (Rest key d f pairs) answer → Answers said (ReadsObject key d) answer
 object_answers key d f pairs answer is pool h = behind said (front_in key d) (λ f. WithPool f.pool (Rest key d f)) f answer is (pool_answers said f.pool (Rest key d f) pairs answer pool h)
@@ -111,4 +117,4 @@ pub compares_same : (pairs : List Pair) (f : Front) (public : Bool) (vs : List R
 compares_same pairs f public vs doc e is = inl (subst (IsText pairs f) e is, refl)
 
 pub compares_other : (pairs : List Pair) (f : Front) (public : Bool) (vs : List Rev) (doc : Doc) → doc ≡ made_of newline vs → (IsText pairs f doc → ⊥) → Compares pairs f public vs (Err bad.Replay)
-compares_other pairs f public vs doc e no = inr (subst (λ (d : Doc). IsText pairs f d → ⊥) e no, refl)
+compares_other pairs f public vs doc e never = inr (subst (λ (d : Doc). IsText pairs f d → ⊥) e never, refl)

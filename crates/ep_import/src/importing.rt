@@ -9,6 +9,7 @@ ghost use Rattle.ep_past.specs.Revisions.{AreRevisions};
 ghost use Rattle.ep_import.specs.Answer.{Answers, Gives};
 ghost use Rattle.ep_import.specs.Imported.{Compares, Imports, ReadsObject, Rest, json_in};
 ghost use Rattle.ep_import.specs.Seen.{front_view, revs_of, said};
+ghost use Rattle.ep_import.specs.Steps.{pool_refusal};
 
 use crate::bad::ImportBad;
 use crate::history::History;
@@ -103,16 +104,24 @@ fn rest(
     compared(alloc, pool, front, public, replay)
 }
 
+/// A value that is no pool is wrong as a whole.
+fn refusal_of(why: PoolBad) -> ImportBad
+    ensures { result ≡ pool_refusal why }
+{
+    match why {
+        PoolBad::Shape(_) | PoolBad::Gap(_) | PoolBad::Twice(_) => ImportBad::Shape(Place::Pool),
+        PoolBad::NoMemory => ImportBad::NoMemory,
+    }
+}
+
 /// The history that the object says.
-#[tactic(auto, using(crate::proofs::Told::object_no_pool))]
 fn object(alloc: Global, value: &Value, key: &str) -> Result<History, ImportBad>
     ensures { Answers said (ReadsObject key.now (view value.now)) result }
 {
     let front = read_front(value, key)?;
     match Pool::from_json(alloc, front.pool) {
         Ok(pool) => rest(alloc, value, key, front, &pool),
-        Err(PoolBad::NoMemory) => Err(ImportBad::NoMemory),
-        Err(_) => Err(ImportBad::Shape(Place::Pool)),
+        Err(why) => Err(refusal_of(why)),
     }
 }
 
