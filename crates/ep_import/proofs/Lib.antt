@@ -7,3 +7,6 @@ pub mod Births
 pub mod Told
 pub mod Exportable
 pub mod Once
+pub mod Standing
+pub mod Written
+pub mod Again

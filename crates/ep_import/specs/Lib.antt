@@ -3,3 +3,4 @@ pub mod Answer
 pub mod Imported
 pub mod Seen
 pub mod Steps
+pub mod Kept

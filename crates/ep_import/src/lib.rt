@@ -16,5 +16,5 @@ mod rows;
 pub use bad::ImportBad;
 pub use history::History;
 pub use importing::{MOST_BYTES, import};
-pub use laws::{a_text_has_one_answer, births_can_be_exported};
+pub use laws::{a_text_has_one_answer, an_export_is_imported, births_can_be_exported};
 pub use place::Place;
