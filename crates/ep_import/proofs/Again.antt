@@ -51,7 +51,7 @@ replays_back pool us (v ∷ vs) few kept has stand ends =
     let h = both (has_pairs pool v.change.runs) (list_all (λ (c : Change). has_pairs pool c.runs) (changes_of vs)) has in
     let same : (us ++ v ∷ []) ++ vs ≡ us ++ v ∷ vs = append_assoc us (v ∷ []) vs in
     let rest = replays_back pool (us ++ v ∷ []) vs few kept.1 h.1 stand.1 (ap (λ ws. lacks_newline (made newline ws)) same ∙ ends) in
-    inl (v, ((rev_back pool v few h.0 kept.0, stand.0), subst (λ ws. Replays pool (us ++ v ∷ []) (map (row_of pool) vs) (Ok ws)) same rest))
+    inl (v, (rev_back pool v few h.0 kept.0, stand.0), subst (λ ws. Replays pool (us ++ v ∷ []) (map (row_of pool) vs) (Ok ws)) same rest)
 
 -- ---- the text
 
@@ -65,7 +65,7 @@ text_told vs public kept =
 told_back : (vs : List Rev) (public : Bool) → AreKept vs → Stand [] vs → Told (front_of vs public) (pool_of vs) public (map (row_of (pool_of vs)) vs) (Ok (record { revs = vs; public = public }))
 told_back vs public kept stand =
     let replays = replays_back (pool_of vs) [] vs kept.few kept.each (all_named_there (pool_of vs) (changes_of vs) refl) stand.all stand.ends in
-    (Ok vs, (replays, inl (text_told vs public kept, refl)))
+    (Ok vs, replays, inl (text_told vs public kept, refl))
 
 pool_read : (vs : List Rev) → AreKept vs → IsPoolRead (pool_json (pool_of vs)) (Ok (pool_of vs))
 pool_read vs kept = (pools.back (pool_of vs) (omega (arith, kept.few)) kept.pairs, named_distinct (flat_map (λ (c : Change). c.runs) (changes_of vs)))
@@ -89,7 +89,7 @@ object_back id v vs public are kept =
     let f = front_of all public in
     let answer : Result Said ImportBad = Ok (record { revs = all; public = public }) in
     let told = then_is (rows_from key d 0 (suc f.head)) (Told f (pool_of all) public) (map (row_of (pool_of all)) all) answer (rows_there id v vs public kept) (told_back all public kept (births_stand v vs are)) in
-    then_is (front_in key d) (λ g. WithPool g.pool (Rest key d g)) f answer (front_back id all public kept.count) (Ok (pool_of all), (pool_read all kept, told))
+    then_is (front_in key d) (λ g. WithPool g.pool (Rest key d g)) f answer (front_back id all public kept.count) (Ok (pool_of all), pool_read all kept, told)
 
 json_back : (text : List ℕ) (d : Data) → length text ≤ most_bytes → read text ≡ Some d → json_in text ≡ Ok d
 json_back text d short is = let e : nat_lt most_bytes (length text) ≡ false = grind (arith, short) in rw (e, is)
