@@ -29,9 +29,7 @@ use Rattle.ep_import.specs.Kept.{IsKept}
 
 -- the pad's name is no revision's
 longer : (key : List ℕ) (n : ℕ) → key ≡ rev_key key n → ⊥
-longer key n e =
-    let long : length (rev_key key n) ≡ length key + (6 + length (decimal n)) = length-append key (codes ":revs:" ++ decimal n) in
-    omega (arith, ap length e, long)
+longer key n e = omega (arith, ap length e, length-append key (codes ":revs:" ++ decimal n))
 
 -- no two revisions have one name
 same_rev : (key : List ℕ) (m n : ℕ) → m ≤ most_number → n ≤ most_number → rev_key key m ≡ rev_key key n → m ≡ n
