@@ -1,5 +1,5 @@
 -- An imported history is a birth's.
-use Rattle.std.proofs.Common.{◌≡◌, ℕ, zero, suc, Bool, List, [], ◌∷◌, ◌⊎◌, inl, inr, Result, Ok, Err, refl, sym, ap, subst, ◌∙◌}
+use Rattle.std.proofs.Common.{◌≡◌, ℕ, suc, Bool, List, [], ◌∷◌, inl, inr, Result, Ok, Err, refl, sym, ap, subst}
 use Rattle.serde_json.specs.Data.{Data}
 use Rattle.ep_units.specs.Text.{Text}
 use Rattle.ep_attr.specs.AttrMap.{Pair}

@@ -1,5 +1,5 @@
 -- A birth's revisions fit, one after another.
-use Rattle.std.proofs.Common.{◌≡◌, ℕ, ◌≤◌, List, [], ◌∷◌, length, refl, sym, subst, arith}
+use Rattle.std.proofs.Common.{ℕ, ◌≤◌, List, [], ◌∷◌, length, refl, sym, subst, arith}
 use Rattle.ep_units.specs.Text.{Text}
 use Rattle.ep_units.specs.Clean.{clean}
 use Rattle.ep_cs.specs.Doc.{Doc}

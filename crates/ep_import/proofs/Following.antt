@@ -1,5 +1,5 @@
 -- Rows, one behind another.
-use Rattle.std.proofs.Common.{◌≡◌, ℕ, suc, ◌+◌, ◌<◌, drop, get_or, Bool, true, false, List, [], ◌∷◌, ◌++◌, length, ◌⊎◌, inl, inr, Result, Ok, Err, Option, Some, None, refl, sym, ap, subst, ◌∙◌, append_assoc, append-nil, arith}
+use Rattle.std.proofs.Common.{◌≡◌, ℕ, suc, ◌+◌, ◌<◌, drop, get_or, false, List, [], ◌∷◌, ◌++◌, length, inl, inr, Result, Ok, Err, Some, None, refl, sym, ap, subst, ◌∙◌, append_assoc, append-nil, arith}
 use Rattle.std.proofs.lemmas.List.{drop_more}
 use Rattle.ep_attr.specs.AttrMap.{Pair}
 use Rattle.ep_history.specs.declared.rev.Rev.{Rev}
@@ -9,7 +9,7 @@ use Rattle.ep_replay.specs.Standing.{AllStand, MayStand}
 use Rattle.ep_replay.proofs.Births.{births_of}
 use Rattle.ep_import.specs.declared.bad.ImportBad.{ImportBad}
 use Rattle.ep_import.specs.declared.bad.ImportBad.TheVariants as bad
-use Rattle.ep_import.specs.Imported.{Ends, Replays, Row, Stands, StandsNone, rev_of}
+use Rattle.ep_import.specs.Imported.{Replays, Row, StandsNone, rev_of}
 use Rattle.ep_import.specs.Answer.{Answers}
 use Rattle.ep_import.specs.Seen.{revs_of, row_view, row_views}
 use Rattle.ep_import.specs.declared.rows.Row as declared_row

@@ -1,5 +1,5 @@
 -- A refusal as the answer of the whole.
-use Rattle.std.proofs.Common.{◌≡◌, ◌⊎◌, inl, inr, List, Result, Ok, Err, refl, sym, ap, subst}
+use Rattle.std.proofs.Common.{◌≡◌, List, Result, Ok, Err, refl, sym, subst}
 use Rattle.serde_json.specs.Data.{Data}
 use Rattle.ep_attr.specs.AttrMap.{Pair}
 use Rattle.ep_pool.specs.Read.{IsBadAs}
@@ -10,7 +10,7 @@ use Rattle.ep_import.specs.declared.bad.ImportBad.{ImportBad}
 use Rattle.ep_import.specs.declared.bad.ImportBad.TheVariants as bad
 use Rattle.ep_import.specs.declared.place.Place.TheVariants as place
 use Rattle.ep_import.specs.Answer.{Answers, IsRefused, Then}
-use Rattle.ep_import.specs.Imported.{WithPool, of_pool}
+use Rattle.ep_import.specs.Imported.{WithPool}
 
 -- a step that refuses is what the whole refuses
 pub step_refused : {A B C : Type 0} (view : C → B) (read : Result A ImportBad) (Next : A → Result B ImportBad → Type 0) (why : ImportBad) → IsRefused why read → Answers view (Then read Next) (Err why)

@@ -1,5 +1,5 @@
 -- What one row says, and whether it stands.
-use Rattle.std.proofs.Common.{◌≡◌, ◌↔◌, ℕ, ◌-◌, Bool, true, false, List, [], ◌∷◌, ◌++◌, length, inl, inr, IsTrue, Option, Some, None, Result, Ok, Err, refl, sym, ap, ◌∙◌}
+use Rattle.std.proofs.Common.{◌≡◌, ◌↔◌, ℕ, ◌-◌, Bool, true, false, List, [], ◌∷◌, ◌++◌, length, inl, inr, IsTrue, Some, None, Ok, Err, refl, sym, ap, ◌∙◌}
 use Rattle.ep_units.specs.Text.{Text}
 use Rattle.ep_units.specs.Utf8.{units_of}
 use Rattle.ep_attr.specs.AttrMap.{Pair}

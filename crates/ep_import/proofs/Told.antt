@@ -1,5 +1,5 @@
 -- What is told of rows, and of the whole text.
-use Rattle.std.proofs.Common.{◌≡◌, ◌⊎◌, inl, inr, ℕ, suc, ◌+◌, Bool, true, false, List, [], ◌↔◌, IsTrue, IfOk, Result, Ok, Err, refl, sym, ap, ◌∙◌, subst, add-one}
+use Rattle.std.proofs.Common.{◌≡◌, ◌⊎◌, inl, inr, ℕ, suc, ◌+◌, Bool, false, List, [], ◌↔◌, IsTrue, IfOk, Result, Ok, Err, refl, sym, ap, ◌∙◌, subst, add-one}
 use Rattle.serde_json.specs.Data.{Data}
 use Rattle.ep_units.specs.Text.{Text}
 use Rattle.ep_units.specs.Utf8.{units_of}

@@ -1,5 +1,5 @@
 -- Which histories are read again as they were written.
-use Rattle.std.specs.Prelude.{◌≡◌, ℕ, ◌<◌, ◌≤◌, ◌^◌, true, List, length, None}
+use Rattle.std.specs.Prelude.{◌≡◌, ◌<◌, ◌≤◌, ◌^◌, true, List, length, None}
 use Rattle.std.specs.List.{AllByRecursion}
 use Rattle.ep_pool.specs.Read.{AreTexts, IsText}
 use Rattle.ep_cs.specs.Change.{bank_of}

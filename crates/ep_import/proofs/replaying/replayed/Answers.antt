@@ -1,4 +1,3 @@
-use Rattle.std.proofs.Common.{arith}
 use Rattle.std.proofs.lemmas.Result.{err_from_is_err_and}
 use Rattle.ep_import.proofs.Following.{remains_next, remains_stop, row_at_place}
 use Rattle.ep_import.proofs.replaying.replayed.Goals as goal
