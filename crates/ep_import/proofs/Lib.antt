@@ -1,0 +1,12 @@
+pub mod Refused
+pub mod Following
+pub mod Sessions
+pub mod Said
+pub mod Lists
+pub mod Births
+pub mod Told
+pub mod Exportable
+pub mod Once
+pub mod Standing
+pub mod Written
+pub mod Again
