@@ -3,7 +3,7 @@
 ghost use Rattle.std.specs.Prelude.{◌≡◌, List, ℕ, [], ◌∷◌, ◌++◌, length, true, ◌↔◌, IsTrue, OnOk, OnErr, IfOk};
 ghost use Rattle.std.specs.Char.Escape.{encode_utf16};
 ghost use Rattle.ep_units.specs.Text.{is_well_formed};
-ghost use Rattle.ep_units.specs.Utf8.{units_of};
+ghost use Rattle.ep_units.specs.Utf8.{units_of, is_ascii};
 
 use crate::no_memory::NoMemory;
 use std::alloc::Global;
@@ -41,6 +41,19 @@ impl Units {
 
     /// The units of a text in UTF-8.
     pub fn from_str(alloc: Global, text: &str) -> Result<Units, NoMemory>
+        ensures units { IfOk result (λ u. u ≡ units_of text.now) }
+        ensures well_formed { IfOk result (λ u. is_well_formed u ≡ true) }
+    {
+        let mut units = Vec::with_capacity(alloc, text.len())?;
+        units.resize(text.len(), 0u16)?;
+        if widen(text.as_bytes(), &mut units) {
+            return Ok(Units { units });
+        }
+        Units::from_chars(alloc, text)
+    }
+
+    /// The same, character by character.
+    fn from_chars(alloc: Global, text: &str) -> Result<Units, NoMemory>
         ensures units { IfOk result (λ u. u ≡ units_of text.now) }
         ensures well_formed { IfOk result (λ u. is_well_formed u ≡ true) }
     {
@@ -105,4 +118,18 @@ impl Units {
     {
         Units::from_slice(alloc, self.as_slice())
     }
+}
+
+/// Sets each unit to its byte, and says whether all bytes are ASCII, so that these are the units of the text.
+fn widen(bytes: &[u8], units: &mut [u16]) -> bool
+    requires { length bytes.now ≡ length units.old }
+    ensures ascii { result ≡ is_ascii bytes.now }
+    ensures units { units.new ≡ bytes.now }
+{
+    let mut ascii = true;
+    for i in 0..bytes.len() {
+        ascii &= bytes[i] < 128;
+        units[i] = u16::from(bytes[i]);
+    }
+    ascii
 }
