@@ -21,8 +21,9 @@ pub struct Doorways {
 
 const NOTHING: &[Ask] = &[];
 
-/// A writer of standard input's lines comes to the server of this number, then one request after the other. Answers what the requests were told, and
-/// the status of the writer, which says itself what it wrote.
+/// A writer of standard input's lines comes to the server of this number, then one request after
+/// the other. Answers what the requests were told, and the status of the writer, which says itself
+/// what it wrote.
 pub fn visit<R>(rt: R, files: HostRuntime, ways: Doorways, number: usize) -> Result<String, Missing>
 where
     R: Wait
