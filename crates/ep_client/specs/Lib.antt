@@ -3,3 +3,4 @@ pub mod Held
 pub mod Refusals
 pub mod Hearing
 pub mod Submitting
+pub mod Restored

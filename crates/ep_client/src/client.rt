@@ -1,13 +1,15 @@
 //! The client.
 
-ghost use Rattle.std.specs.Prelude.{◌≡◌, suc, true, length, not, ◌&&◌, is_some, Option, Some, None, Ok, IfOk, OnOk, OnErr};
+ghost use Rattle.std.specs.Prelude.{◌≡◌, ◌⊎◌, suc, true, length, not, ◌&&◌, is_some, Option, Some, None, Ok, Err, IfOk, IfSome, OnOk, OnErr};
 ghost use Rattle.ep_cs.specs.Edit.{apply, identity};
 ghost use Rattle.ep_cs.specs.Fits.{Fits, is_identity};
 ghost use Rattle.ep_cs.specs.Fitting.{fit_bad};
 ghost use Rattle.ep_history.specs.History.{is_session};
 ghost use Rattle.ep_history.specs.Kept.{kept_started, kept_edited, kept_lost, kept_resumes, kept_own, kept_other, kept_nop, kept_dropped, is_kept_own, is_kept_elsewhere, is_kept_spent, IsKeptSound};
+ghost use Rattle.ep_client.specs.declared.bad.ClientBad.TheVariants as bad;
 ghost use Rattle.ep_client.specs.Refusals.{Refuses, answered, fit_fault, order_fault, commit_fault, nop_fault, rev_fault, hear_fault};
 ghost use Rattle.ep_client.specs.Hearing.{kept_hears, kept_hears_rev, shown_change, told_of, view_change, view_change_rev};
+ghost use Rattle.ep_client.specs.Restored.{kept_restored, restore_fault, sent_edit, sent_session};
 ghost use Rattle.ep_client.specs.Submitting.{Submits};
 
 use crate::bad::ClientBad;
@@ -88,6 +90,54 @@ impl Client {
             session,
             connected: true,
             told: 0,
+        })
+    }
+
+    /// A client of what was kept of one: the document of the revision that it had heard, what it submitted and in which
+    /// session, and what it did not. It isn't connected.
+    pub fn restore(
+        alloc: Global,
+        doc: Doc,
+        rev: u64,
+        session: Session,
+        sent: Option<(Session, Change)>,
+        local: Change,
+    ) -> Result<Client, ClientBad>
+        ensures made { IfOk result (λ c. c ≡ kept_restored doc rev session sent local) }
+        ensures refused { Refuses (restore_fault doc sent local) result ⊎ (result ≡ Err bad.NoMemory) }
+    {
+        let (sent, sent_in) = sent_parts(alloc, &doc, sent);
+        fits(&doc, &sent)?;
+        let shown = apply(alloc, &doc, &sent)?;
+        fits(&shown, &local)?;
+        let view = apply(alloc, &shown, &local)?;
+        Ok(Client {
+            rev,
+            doc,
+            sent,
+            local,
+            view,
+            sent_in,
+            session,
+            connected: false,
+            told: 0,
+        })
+    }
+
+    /// The same client once more, for a call that may fail behind one of its own. It shares all blocks.
+    pub fn copy(&self, alloc: Global) -> Result<Client, NoMemory>
+        ensures { IfOk result (λ c. c ≡ self.now) }
+    {
+        Ok(Client {
+            rev: self.rev,
+            doc: self.doc.copy(alloc)?,
+            sent: self.sent.copy(alloc)?,
+            local: self.local.copy(alloc)?,
+            view: self.view.copy(alloc)?,
+            sent_in: self.sent_in,
+            session: self.session,
+            connected: self.connected,
+            told: self.told,
         })
     }
 
@@ -345,6 +395,31 @@ impl Client {
         &self.view
     }
 
+    /// The document of the revision that it has heard.
+    pub fn doc(&self) -> &Doc
+        ensures { result.now ≡ self.now.doc }
+    {
+        &self.doc
+    }
+
+    /// What it submitted, as a change of that document, and the session in which it was sent last; where nothing is
+    /// submitted, there is no session, and the change alters nothing.
+    pub fn submitted(&self) -> (&Change, Option<Session>)
+        ensures change { result.0.now.edit ≡ self.now.sent }
+        ensures fits { Fits result.0.now self.now.doc }
+        ensures session { result.1 ≡ self.now.sent_in }
+    {
+        (&self.sent, self.sent_in)
+    }
+
+    /// What it did not submit, as a change of what that makes.
+    pub fn unsubmitted(&self) -> &Change
+        ensures change { result.now.edit ≡ self.now.local }
+        ensures fits { Fits result.now (apply self.now.sent self.now.doc) }
+    {
+        &self.local
+    }
+
     /// What holds of every client: what was submitted fits the document of its revision, what was not fits what that
     /// makes, the view is the document after both, and no submission alters nothing. It does nothing.
     pub fn equations(&self)
@@ -402,6 +477,23 @@ fn unchanged(alloc: Global, doc: &Doc) -> Change
 {
     let _document = doc.reading();
     Change::identity(alloc, doc.len())
+}
+
+/// A submission as a change of a document, and its session; the change that alters nothing where there is none.
+fn sent_parts(
+    alloc: Global,
+    doc: &Doc,
+    sent: Option<(Session, Change)>,
+) -> (Change, Option<Session>)
+    ensures edit { result.0.edit ≡ sent_edit doc.now sent }
+    ensures session { result.1 ≡ sent_session sent }
+    ensures fits { sent ≡ None → Fits result.0 doc.now }
+    ensures given { IfSome sent (λ s. result.0 ≡ s.1) }
+{
+    match sent {
+        Some((session, change)) => (change, Some(session)),
+        None => (unchanged(alloc, doc), None),
+    }
 }
 
 fn is_session(a: Session, b: Session) -> bool
