@@ -1,5 +1,5 @@
 -- Working words of private contracts: stacks in code, whose edits were made before what waits at them was heard.
-use Rattle.std.specs.Prelude.{◌≡◌, ◌⊎◌, ℕ, ◌+◌, ◌≤◌, List, [], ◌∷◌, ◌++◌, map, length, vec_len, vec_capacity, Option, Some, None}
+use Rattle.std.specs.Prelude.{◌≡◌, ◌⊎◌, ℕ, Bool, true, false, ◌+◌, ◌≤◌, List, [], ◌∷◌, ◌++◌, map, length, vec_len, vec_capacity, Option, Some, None}
 use Rattle.ep_cs.specs.Change.{Change}
 use Rattle.ep_cs.specs.Doc.{Doc}
 use Rattle.ep_cs.specs.Edit.{Edit, apply}
@@ -23,6 +23,11 @@ all_down (d ∷ ds) us = all_down ds (down d us)
 abbrev pub stood : List Record → List Edit → List Edit
 stood [] us = us
 stood (r ∷ rs) us = stood rs (all_down (edits_of r.heard.items) (r.change.edit ∷ us))
+
+-- whether there are any
+abbrev pub has_records : List Record → Bool
+has_records [] = false
+has_records (r ∷ rs) = true
 
 -- these changes lead from one document to another
 abbrev pub IsWay : List Change → Doc → Doc → Type 0

@@ -1,10 +1,11 @@
 //! The client.
 
-ghost use Rattle.std.specs.Prelude.{◌≡◌, ◌⊎◌, Err, option_map, IfOk, IfSome, OnErr, OnOk};
+ghost use Rattle.std.specs.Prelude.{◌≡◌, ◌⊎◌, Err, is_some, option_map, IfOk, IfSome, OnErr, OnOk};
+ghost use Rattle.ep_cs.specs.Edit.{apply};
 ghost use Rattle.ep_cs.specs.Fits.{Fits};
 ghost use Rattle.ep_cs.specs.Fitting.{fit_bad};
 ghost use Rattle.ep_history.specs.Kept.{IsKeptSound};
-ghost use Rattle.ep_client.specs.Hearing.{told_of};
+ghost use Rattle.ep_client.specs.Hearing.{told_of, view_change};
 ghost use Rattle.ep_client.specs.Refusals.{Refuses, fit_fault, hear_fault};
 ghost use Rattle.ep_client.specs.Submitting.{Submits};
 ghost use Rattle.ep_client.specs.declared.bad.ClientBad.TheVariants as bad;
@@ -112,6 +113,41 @@ impl UndoClient {
         let change = self.client.hear_change(alloc, heard)?;
         take_news(&self.undos, &self.redos, &mut self.recent, told, change);
         Ok(told)
+    }
+
+    /// As `hear`, but it answers what that changes of the view: nothing, where it was its own.
+    pub fn hear_change(&mut self, alloc: Global, heard: &Heard) -> Result<Change, ClientBad>
+        ensures made { OnOk result (self.new ≡ undo_hears heard.now self.old) }
+        ensures change { IfOk result (λ c. c.edit ≡ view_change heard.now self.old.client) }
+        ensures fits { IfOk result (λ c. Fits c self.old.client.view) }
+        ensures shown { IfOk result (λ c. self.new.client.view ≡ apply c.edit self.old.client.view) }
+        ensures refused { Refuses (hear_fault heard.now self.old.client) result ⊎ (result ≡ Err bad.NoMemory) }
+        ensures kept { OnErr result (self.new ≡ self.old) }
+    {
+        let told = self.client.told_of(heard);
+        let mut client = self.client.copy(alloc)?;
+        let change = client.hear_change(alloc, heard)?;
+        let waiting = change.copy(alloc)?;
+        if self.recent.reserve(1).is_err() {
+            return Err(ClientBad::NoMemory);
+        }
+        self.client = client;
+        take_news(&self.undos, &self.redos, &mut self.recent, told, waiting);
+        Ok(change)
+    }
+
+    /// Whether something can be taken back.
+    pub fn can_undo(&self) -> bool
+        ensures { result ≡ is_some (top self.now.undos) }
+    {
+        self.undos.has_top()
+    }
+
+    /// Whether something that was taken back can be made again.
+    pub fn can_redo(&self) -> bool
+        ensures { result ≡ is_some (top self.now.redos) }
+    {
+        self.redos.has_top()
     }
 
     /// What it sends now, if there is something to send.

@@ -1,12 +1,13 @@
 //! Stacks of edits that can be made.
 
-ghost use Rattle.std.specs.Prelude.{◌≡◌, ◌+◌, ◌<◌, ◌≤◌, ◌++◌, ◌∷◌, [], true, length, take, vec_len, vec_capacity, IfOk, OnOk, OnErr, IsOk};
+ghost use Rattle.std.specs.Prelude.{◌≡◌, ◌+◌, ◌<◌, ◌≤◌, ◌++◌, ◌∷◌, [], true, is_some, length, take, vec_len, vec_capacity, IfOk, OnOk, OnErr, IsOk};
 ghost use Rattle.ep_cs.specs.Doc.{Doc};
 ghost use Rattle.ep_cs.specs.Edit.{apply};
 ghost use Rattle.ep_cs.specs.Fits.{Fits};
 ghost use Rattle.ep_history.specs.Kept.{kept_edited};
 ghost use Rattle.ep_invert.specs.Inverse.{inverse};
-ghost use Rattle.ep_undo.specs.Stacks.{stood, AreAlike, AreHeard, HasRoom, IsSettled, IsStackOf, IsToHear, IsWay, Makes, Waits};
+ghost use Rattle.ep_undo.specs.Stacks.{has_records, stood, AreAlike, AreHeard, HasRoom, IsSettled, IsStackOf, IsToHear, IsWay, Makes, Waits};
+ghost use Rattle.ep_undo.specs.Undo.{top};
 
 use ep_client::{Client, Told};
 use ep_cs::{Change, First};
@@ -106,6 +107,13 @@ impl Stack {
         self.records.is_empty()
     }
 
+    /// Whether there is a top.
+    pub fn has_top(&self) -> bool
+        ensures { result ≡ is_some (top (stood self.now.records.items [])) }
+    {
+        has_records(self.records.as_slice())
+    }
+
     /// None are left.
     pub fn clear(&mut self)
         ensures { self.new.records.items ≡ [] }
@@ -176,6 +184,15 @@ impl Stack {
         let heard = top.hear(changes);
         self.records.push_reserved(top);
         heard
+    }
+}
+
+fn has_records(records: &[Record]) -> bool
+    ensures { result ≡ has_records records.now }
+{
+    match records {
+        [] => false,
+        [_, ..] => true,
     }
 }
 
