@@ -183,9 +183,7 @@ async function hear(message) {
 
 /** What the server sent can't be heard: another connection may do better. */
 function refuse(why, message) {
-  const { type, data } = messageOf(message);
-  if (type === 'CHANGESET_REQ') page.past.forget();
-  else if (why === 'turn' && data?.birth !== undefined) close('renewed');
+  if (messageOf(message).type === 'CHANGESET_REQ') page.past.forget();
   else if (++page.refused < MOST_REFUSED) page.link.renew();
   else fail(new Error(`what the server sent can’t be heard: ${why}`));
 }
