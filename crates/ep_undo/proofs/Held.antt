@@ -13,7 +13,7 @@ use Rattle.ep_client.specs.declared.heard.Heard.{Heard}
 use Rattle.ep_client.specs.declared.heard.Heard.TheVariants.{Commit, Nop, Rev}
 use Rattle.ep_client.specs.declared.heard.Told.{Told}
 use Rattle.ep_client.specs.declared.heard.Told.TheVariants as told
-use Rattle.ep_undo.specs.Undo.{UndoState, down, undo_hears, undo_other, with_client}
+use Rattle.ep_undo.specs.Undo.{UndoState, down, edited_beside, undo_hears, undo_other, with_client}
 use Rattle.ep_undo.specs.Stacks.{edits_of, all_down, stood, IsWay, IsStackOf, AreAlike, AreHeard, Makes, Waits}
 use Rattle.ep_undo.specs.Held.{IsHeld, held}
 use Rattle.ep_undo.specs.declared.client.UndoClient.TheInside as client
@@ -250,3 +250,33 @@ pub hears-made : (c : client.Inside) (h : Heard) (t : Told) (k : KeptClient) (d 
     → state k (all_down (edits_of cs) (stood c.undos.records.items [])) (all_down (edits_of cs) (stood c.redos.records.items [])) ≡ undo_hears h (held c)
 hears-made c h told.Commit k d cs t m e w = hears-nothing c h k cs (sym t) m w
 hears-made c h told.News k d cs t m e w = hears-waits c h k d cs (sym t) m e w
+
+-- ---- an edit that isn't taken back by itself
+
+pub held-beside : (c c' : client.Inside) (d : Change) → IsHeld c → Fits d c.client.view → c'.client ≡ kept_edited d.edit c.client → c'.undos ≡ c.undos → c'.redos ≡ c.redos
+    → Waits told.News c.undos.records.items c.redos.records.items c.recent.items d c'.recent.items → IsHeld c'
+held-beside c c' d h f m u r w = held-waits c c' d h f (ap (λ (k : KeptClient). k.view) m) u r w
+
+pub beside-made : (c : client.Inside) (k : KeptClient) (d : Change) (cs : List Change) → k ≡ kept_edited d.edit c.client
+    → Waits told.News c.undos.records.items c.redos.records.items c.recent.items d cs
+    → state k (all_down (edits_of cs) (stood c.undos.records.items [])) (all_down (edits_of cs) (stood c.redos.records.items [])) ≡ edited_beside d.edit (held c)
+beside-made c k d cs m w =
+    let g = waits-down c.undos.records.items c.redos.records.items c.recent.items cs d w in
+    λ i. state (m i) (g.0 i) (g.1 i)
+
+-- ---- a copy
+
+pub held-copy : (c c' : client.Inside) → IsHeld c → c'.client ≡ c.client → AreAlike c.undos.records.items c'.undos.records.items
+    → AreAlike c.redos.records.items c'.redos.records.items → c'.recent.items ≡ c.recent.items → IsHeld c'
+held-copy c c' h k a b r = record {
+  before = h.before;
+  recent = subst (IsWay c'.recent.items h.before) (sym (ap (λ (q : KeptClient). q.view) k)) (subst (λ cs. IsWay cs h.before c.client.view) (sym r) h.recent);
+  undos = a.chain h.before h.undos;
+  redos = b.chain h.before h.redos;
+  short = let p = a.count in let q = b.count in let s = h.short in omega (arith, p, q, s);
+}
+
+pub copy-held : (c c' : client.Inside) → c'.client ≡ c.client → AreAlike c.undos.records.items c'.undos.records.items
+    → AreAlike c.redos.records.items c'.redos.records.items → c'.recent.items ≡ c.recent.items → held c' ≡ held c
+copy-held c c' k a b r =
+    λ i. state (k i) (all_down (edits_of (r i)) (a.edits i)) (all_down (edits_of (r i)) (b.edits i))

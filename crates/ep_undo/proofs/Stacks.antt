@@ -1,14 +1,14 @@
 -- Stacks in code.
-use Rattle.std.proofs.Common.{◌≡◌, true, false, ℕ, zero, suc, ◌+◌, ◌≤◌, List, [], ◌∷◌, ◌++◌, length, take, drop, vec_len, vec_capacity, Result, Ok, Err, inl, inr, refl, sym, ap, ap₂, ◌∙◌, subst, arith}
+use Rattle.std.proofs.Common.{◌≡◌, true, false, ℕ, zero, suc, ◌+◌, ◌≤◌, List, [], ◌∷◌, ◌++◌, map, length, take, drop, vec_len, vec_capacity, Result, Ok, Err, inl, inr, refl, sym, ap, ap₂, ◌∙◌, subst, arith}
 use Rattle.std.specs.Prelude.{OnOk, OnErr}
-use Rattle.std.proofs.lemmas.List.{map-append, length-append, take_all}
+use Rattle.std.proofs.lemmas.List.{map-append, length-append, length-map, take_all}
 use Rattle.ep_cs.specs.Change.{Change}
 use Rattle.ep_cs.specs.Doc.{Doc}
 use Rattle.ep_cs.specs.Edit.{Edit, apply}
 use Rattle.ep_cs.specs.Fits.{Fits}
 use Rattle.ep_cs.specs.Follow.{follow}
 use Rattle.ep_undo.specs.Undo.{down}
-use Rattle.ep_undo.specs.Stacks.{edits_of, all_down, stood, IsWay, IsOver, IsChain, IsStackOf, HasRoom, AreAlike, AreHeard, IsToHear}
+use Rattle.ep_undo.specs.Stacks.{edits_of, essence, all_down, stood, IsWay, IsOver, IsChain, IsStackOf, HasRoom, AreAlike, AreHeard, IsToHear}
 use Rattle.ep_undo.specs.declared.stack.Record.{Record}
 
 -- ---- changes that go down
@@ -113,6 +113,62 @@ alike-top rs q r e f = record {
         }),
       );
   count = length-top rs r ∙ sym (length-top rs q);
+}
+
+-- ---- copies
+
+-- a list's first, or another
+first_or : {A : Type 0} → A → List A → A
+first_or a [] = a
+first_or a (x ∷ xs) = x
+
+behind : {A : Type 0} → List A → List A
+behind [] = []
+behind (x ∷ xs) = xs
+
+copies-stood : (rs ss : List Record) → map essence ss ≡ map essence rs → (us : List Edit) → stood ss us ≡ stood rs us
+unfolding behind first_or
+copies-stood [] [] e us = refl
+copies-stood [] (s ∷ ss) e us = absurd (no e)
+  where
+    no : map essence (s ∷ ss) ≡ [] → ⊥
+    no e = cc
+copies-stood (r ∷ rs) [] e us = absurd (no e)
+  where
+    no : [] ≡ map essence (r ∷ rs) → ⊥
+    no e = cc
+copies-stood (r ∷ rs) (s ∷ ss) e us =
+    let h = ap (first_or (essence r)) e in
+    ap (λ (x : Change × List Change). stood ss (all_down (edits_of x.1) (x.0.edit ∷ us))) h
+    ∙ copies-stood rs ss (ap behind e) (all_down (edits_of r.heard.items) (r.change.edit ∷ us))
+
+copies-over : (doc next : Doc) (r s : Record) → essence s ≡ essence r → IsOver doc r next → IsOver doc s next
+copies-over doc next r s e o = record {
+  base = o.base;
+  fits = subst (λ (x : Change × List Change). Fits x.0 o.base) (sym e) o.fits;
+  makes = ap (λ (x : Change × List Change). apply x.0.edit o.base) e ∙ o.makes;
+  way = subst (λ (x : Change × List Change). IsWay x.1 o.base next) (sym e) o.way;
+}
+
+copies-chain : (rs ss : List Record) → map essence ss ≡ map essence rs → (doc view : Doc) → IsChain doc rs view → IsChain doc ss view
+unfolding first_or behind
+copies-chain [] [] e doc view c = c
+copies-chain [] (s ∷ ss) e doc view c = absurd (no e)
+  where
+    no : map essence (s ∷ ss) ≡ [] → ⊥
+    no e = cc
+copies-chain (r ∷ rs) [] e doc view c = absurd (no e)
+  where
+    no : [] ≡ map essence (r ∷ rs) → ⊥
+    no e = cc
+copies-chain (r ∷ rs) (s ∷ ss) e doc view c =
+    (c.0, copies-over doc c.0 r s (ap (first_or (essence r)) e) c.1, copies-chain rs ss (ap behind e) c.0 view c.2)
+
+pub copies-alike : (rs ss : List Record) → map essence ss ≡ map essence rs → AreAlike rs ss
+copies-alike rs ss e = record {
+  edits = copies-stood rs ss e [];
+  chain = λ view c. (c.0, copies-chain rs ss e c.0 view c.1);
+  count = sym (length-map ss essence) ∙ ap length e ∙ length-map rs essence;
 }
 
 pub alike-self : (rs : List Record) → AreAlike rs rs

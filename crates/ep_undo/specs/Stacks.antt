@@ -24,6 +24,10 @@ abbrev pub stood : List Record → List Edit → List Edit
 stood [] us = us
 stood (r ∷ rs) us = stood rs (all_down (edits_of r.heard.items) (r.change.edit ∷ us))
 
+-- what a record is, whatever room it has
+abbrev pub essence : Record → Change × List Change
+essence r = (r.change, r.heard.items)
+
 -- whether there are any
 abbrev pub has_records : List Record → Bool
 has_records [] = false

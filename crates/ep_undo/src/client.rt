@@ -9,9 +9,9 @@ ghost use Rattle.ep_client.specs.Hearing.{told_of, view_change};
 ghost use Rattle.ep_client.specs.Refusals.{Refuses, fit_fault, hear_fault};
 ghost use Rattle.ep_client.specs.Submitting.{Submits};
 ghost use Rattle.ep_client.specs.declared.bad.ClientBad.TheVariants as bad;
-ghost use Rattle.ep_undo.specs.Undo.{top, undo_edited, undo_hears, undo_lost, undo_resumes, undo_started, undone, redone, with_client};
+ghost use Rattle.ep_undo.specs.Undo.{edited_beside, top, undo_edited, undo_hears, undo_lost, undo_resumes, undo_started, undone, redone, with_client};
 
-use crate::stack::{Stack, make_top, spread, take_news};
+use crate::stack::{Stack, copy_all, make_top, spread, take_news};
 use ep_apply::fits;
 use ep_client::{Client, ClientBad, Heard, Submission, Told};
 use ep_cs::Change;
@@ -97,6 +97,41 @@ impl UndoClient {
         self.undos.cut();
         self.redos.clear();
         Ok(())
+    }
+
+    /// The user's view is changed by an edit that isn't taken back by itself: what is on the stacks goes behind it, as behind
+    /// another's.
+    pub fn edit_beside(&mut self, alloc: Global, change: &Change) -> Result<(), ClientBad>
+        ensures made { OnOk result (self.new ≡ edited_beside change.now.edit self.old) }
+        ensures refused { Refuses (fit_fault (fit_bad change.now self.old.client.view)) result }
+        ensures kept { OnErr result (self.new ≡ self.old) }
+    {
+        fits(self.client.view(), change)?;
+        let waiting = change.copy(alloc)?;
+        if self.recent.reserve(1).is_err() {
+            return Err(ClientBad::NoMemory);
+        }
+        self.client.edit(alloc, change)?;
+        take_news(
+            &self.undos,
+            &self.redos,
+            &mut self.recent,
+            Told::News,
+            waiting,
+        );
+        Ok(())
+    }
+
+    /// The same client once more, with its stacks. It shares all blocks.
+    pub fn copy(&self, alloc: Global) -> Result<UndoClient, NoMemory>
+        ensures { IfOk result (λ c. c ≡ self.now) }
+    {
+        Ok(UndoClient {
+            client: self.client.copy(alloc)?,
+            undos: self.undos.copy(alloc)?,
+            redos: self.redos.copy(alloc)?,
+            recent: copy_all(alloc, &self.recent)?,
+        })
     }
 
     /// It hears the next revision, or that its submission became nothing.

@@ -6,7 +6,7 @@ ghost use Rattle.ep_cs.specs.Edit.{apply};
 ghost use Rattle.ep_cs.specs.Fits.{Fits};
 ghost use Rattle.ep_history.specs.Kept.{kept_edited};
 ghost use Rattle.ep_invert.specs.Inverse.{inverse};
-ghost use Rattle.ep_undo.specs.Stacks.{has_records, stood, AreAlike, AreHeard, HasRoom, IsSettled, IsStackOf, IsToHear, IsWay, Makes, Waits};
+ghost use Rattle.ep_undo.specs.Stacks.{essence, has_records, stood, AreAlike, AreHeard, HasRoom, IsSettled, IsStackOf, IsToHear, IsWay, Makes, Waits};
 ghost use Rattle.ep_undo.specs.Undo.{top};
 
 use ep_client::{Client, Told};
@@ -69,6 +69,16 @@ impl Record {
         Ok(Settled { change, heard })
     }
 
+    /// The same record once more.
+    fn copy(&self, alloc: Global) -> Result<Record, NoMemory>
+        ensures { IfOk result (λ r. essence r ≡ essence self.now) }
+    {
+        Ok(Record {
+            change: self.change.copy(alloc)?,
+            heard: copy_all(alloc, &self.heard)?,
+        })
+    }
+
     /// More was heard. Where there is no memory it is not, and stays there.
     fn hear(&mut self, changes: &mut Vec<Change>) -> Result<(), NoMemory>
         ensures change { self.new.change ≡ self.old.change }
@@ -105,6 +115,17 @@ impl Stack {
         ensures { result ≡ true → self.now.records.items ≡ [] }
     {
         self.records.is_empty()
+    }
+
+    /// The same edits once more.
+    pub fn copy(&self, alloc: Global) -> Result<Stack, NoMemory>
+        ensures { IfOk result (λ s. AreAlike self.now.records.items s.records.items) }
+    {
+        let mut records = Vec::with_capacity(alloc, self.records.len())?;
+        for record in &self.records {
+            records.push(record.copy(alloc)?)?;
+        }
+        Ok(Stack { records })
     }
 
     /// Whether there is a top.
@@ -309,7 +330,7 @@ fn copies_for(alloc: Global, stack: &Stack, changes: &[Change]) -> Result<Vec<Ch
 }
 
 /// The same changes once more.
-fn copy_all(alloc: Global, changes: &[Change]) -> Result<Vec<Change>, NoMemory>
+pub fn copy_all(alloc: Global, changes: &[Change]) -> Result<Vec<Change>, NoMemory>
     ensures { IfOk result (λ v. v.items ≡ changes.now) }
 {
     let mut copies = Vec::with_capacity(alloc, changes.len())?;
