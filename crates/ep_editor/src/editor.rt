@@ -101,8 +101,7 @@ impl Editor {
         Ok(first)
     }
 
-    /// A pad is to be entered by who has kept what an editor of it was: what is to be sent first, to come back to it. The view
-    /// is to be shown.
+    /// A pad is to be entered with what was kept of an editor of it: what is to be sent first. The view is to be shown.
     pub fn enter_again(
         &mut self,
         alloc: Global,
@@ -123,7 +122,6 @@ impl Editor {
     /// A message came from the server, which is this text.
     pub fn heard(&mut self, alloc: Global, text: &str) -> Result<Said, EditorBad>
         ensures replies { Answers text.now result self.old self.new }
-        // A change that is told has the claims of what was shown.
         ensures fits { IfOk result (FitsShown self.old) }
     {
         let msg = read_server(alloc, text, MOST_BYTES)?;

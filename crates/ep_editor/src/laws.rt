@@ -29,8 +29,7 @@ pub fn answers_each_change_of_the_view()
     ensures { (r : Request) (p : AnyEntered) → IsOfPad r → IfInside (answer r (Inside p)).1 (λ q. (kept_of q).view ≡ shown_after p.author r (answer r (Inside p)).0 (kept_of p).view) }
 {}
 
-/// A connection that is lost, and one that is there again, lose nothing of what was typed; nor does what is kept, or a look at
-/// the past.
+/// A lost connection, one that is there again, a keep and a look at the past lose nothing of what was typed.
 pub fn a_lost_connection_loses_no_work()
     ensures { (r : Request) (p : AnyEntered) → IsOfConnection r → IfInside (answer r (Inside p)).1 (λ q. IsSameWork (kept_of p) (kept_of q)) }
 {}
@@ -41,8 +40,7 @@ pub fn what_is_kept_goes_on()
         → IfInside (answer (EntersAgain wanted k) s).1 (λ q. IsSameWork (kept_of p) (kept_of q)) }
 {}
 
-/// As long as the steps that come are those of a history, which has a document for each revision, what is shown of a revision is
-/// its document there.
+/// As long as the steps that come are those of a history, what is shown of a revision is its document there.
 pub fn the_slider_shows_the_history()
     ensures asked { (docs : ℕ → Doc) (to : ℕ) (p : AnyEntered) (doc : Doc) → IsSliderOf docs p.slider → (slides to p).0 ≡ Past doc → doc ≡ docs to }
     ensures stays { (docs : ℕ → Doc) (to : ℕ) (p : AnyEntered) → IsSliderOf docs p.slider → IsSliderOf docs (slides to p).1.slider }
