@@ -4,9 +4,10 @@
     tools/padedit_ws.py [--keys N] PADEDIT COMMAND..
 
 PADEDIT is the program `padedit`, COMMAND what runs `padd` (a path, or several words). In a fresh folder the server is started,
-and both type N keys (200) at random places; in the middle the server is killed (SIGKILL), and started again on the same folder
-a second later, while both type on. In the end both must show one text, which is what the API says, and each has shown what its
-`padedit` has, change by change. It needs Python's `websockets`, and skips with a word where that isn't there.
+and both type N keys (200) at random places, and take some back, and make some of these again; in the middle the server is killed
+(SIGKILL), and started again on the same folder a second later, while both type on. The first is closed then, and a new one goes on
+with what it kept. In the end both must show one text, which is what the API says, and each has shown what its `padedit` has, change
+by change; and the timeslider shows the first revision and the last. It needs Python's `websockets`, and skips with a word where that isn't there.
 
 It is at the same time the example of how an editor uses `padedit`: `Editor` below is all that it takes.
 """
@@ -57,9 +58,9 @@ class Editor:
     """An editor that shows a text, and has a `padedit` do the rest."""
 
     def __init__(self, command, url, token):
-        self.child = subprocess.Popen([command], stdin=subprocess.PIPE, stdout=subprocess.PIPE)
-        self.url, self.token = url, token
-        self.text, self.state, self.link = None, {"connected": False}, None
+        self.command, self.child = command, subprocess.Popen([command], stdin=subprocess.PIPE, stdout=subprocess.PIPE)
+        self.url, self.token, self.kept = url, token, None
+        self.text, self.past, self.state, self.link = None, None, {"connected": False}, None
 
     def ask(self, **request):
         self.child.stdin.write(json.dumps(request).encode() + b"\n")
@@ -78,10 +79,21 @@ class Editor:
             except websockets.exceptions.WebSocketException:
                 pass  # the connection is gone, which `run` is told too
 
+    async def look(self, reply):
+        """What the timeslider does: it shows a text, or has something sent."""
+        if "send" in reply:
+            await self.link.send(reply["send"])
+        elif "text" in reply:
+            self.past = reply["text"]
+
     async def hear(self, message):
+        if self.kept is not None:
+            return  # it was closed
         reply = self.ask(do="heard", message=message)
-        if "text" in reply:
+        if "author" in reply:
             self.text = reply["text"]
+        else:
+            await self.look(reply)
         if "change" in reply:
             self.text = changed(self.text, reply["change"])
         if "closed" in reply:
@@ -90,21 +102,40 @@ class Editor:
         if self.state["connected"]:
             await self.send_due()
 
+    def begin(self):
+        """The first message of a connection."""
+        if self.kept is not None:
+            reply = self.ask(do="enter", pad="p", token=self.token, kept=self.kept)
+            self.text, self.kept = reply["text"], None
+            return reply
+        return self.ask(do="enter", pad="p", token=self.token) if self.text is None else self.ask(do="return")
+
+    def close(self):
+        """Its program ends, and another goes on with what it kept."""
+        self.kept = self.ask(do="keep")["kept"]
+        self.child.kill()
+        self.child = subprocess.Popen([self.command], stdin=subprocess.PIPE, stdout=subprocess.PIPE)
+
+    async def slide(self, to):
+        self.past = None
+        await self.look(self.ask(do="slide", to=to))
+        return await until(lambda: self.past is not None, 10) and self.past
+
     async def run(self):
         """Connects, and connects again whenever the connection is gone."""
         while True:
             try:
                 async with websockets.connect(self.url, max_size=None) as link:
-                    reply = self.ask(do="enter", pad="p", token=self.token) if self.text is None else self.ask(do="return")
+                    reply = self.begin()
                     self.link = link
                     await link.send(reply["send"])
                     async for message in link:
                         await self.hear(message)
             except (OSError, websockets.exceptions.WebSocketException):
                 pass
-            if self.link is not None:
-                self.link = None
+            if self.link is not None and self.kept is None:
                 self.ask(do="lost")
+            self.link = None
             await asyncio.sleep(0.1)
 
     async def key(self):
@@ -114,8 +145,19 @@ class Editor:
         put = "" if drop else random.choice("abcdefgh \n")
         self.ask(do="edit", at=at, drop=drop, put=put)
         self.text = self.text[:at] + put + self.text[at + drop:]
+        if put and random.random() < 0.2:
+            self.remake("undo")
+            if random.random() < 0.5:
+                self.remake("redo")
         if self.state["connected"]:
             await self.send_due()
+
+    def remake(self, what):
+        """A key is taken back, or made again. That what another typed and this one deleted isn't taken back here: the server
+        takes no text of another author."""
+        reply = self.ask(do=what)
+        if "change" in reply:
+            self.text = changed(self.text, reply["change"])
 
     def is_clean(self):
         return self.state["connected"] and not self.state["waiting"] and not self.state["unsent"]
@@ -175,10 +217,16 @@ async def main():
                 raise SystemExit("the document did not come")
             killing = kill_in_the_middle(args.command, folder, ports, server, args.keys * 0.005)
             server, *_ = await asyncio.gather(killing, *(type_keys(editor, args.keys) for editor in editors))
+            editors[0].close()
+            await editors[0].link.close()
+            if not await until(lambda: editors[0].kept is None, 10):
+                raise SystemExit("what was kept isn't gone on with")
             same = await until(lambda: all(e.is_clean() for e in editors) and editors[0].state["rev"] == editors[1].state["rev"], 30)
             with urllib.request.urlopen(f"http://127.0.0.1:{ports[1]}/api/1/getText?apikey=key&padID=p") as reply:
                 text = json.loads(reply.read())["data"]["text"]
-            well = same and all(editor.text == text for editor in editors)
+            rev = editors[0].state["rev"]
+            past = [await editors[0].slide(to) for to in (rev, 0, rev // 2, rev)]
+            well = same and all(editor.text == text for editor in editors) and past[0] == past[3] == text and past[1] is not False
             print(f"{'well' if well else 'FAILED'}: revision {editors[0].state.get('rev')}, {len(text)} units")
             return 0 if well else 1
         finally:

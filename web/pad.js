@@ -45,7 +45,6 @@ const page = {
   fault: null, // why the page can't go on
   readOnly: false,
   isShown: false,
-  can: { keep: false, slide: false },
   author: '',
   undos: [], // of how many edits each step back consists, the next one last
   redos: [],
@@ -183,9 +182,7 @@ async function hear(message) {
 
 /** What the server sent can't be heard: another connection may do better. */
 function refuse(why, message) {
-  const { type, data } = messageOf(message);
-  if (type === 'CHANGESET_REQ') page.past.forget();
-  else if (why === 'turn' && data?.birth !== undefined) close('renewed');
+  if (messageOf(message).type === 'CHANGESET_REQ') page.past.forget();
   else if (++page.refused < MOST_REFUSED) page.link.renew();
   else fail(new Error(`what the server sent can’t be heard: ${why}`));
 }
@@ -243,13 +240,13 @@ function fail(error) {
 const isUnsaved = () => Boolean(page.state.waiting || page.state.unsent);
 
 function keepSoon() {
-  if (page.can.keep && isUnsaved()) page.timers.keep ||= setTimeout(keepNow, page.pause);
+  if (isUnsaved()) page.timers.keep ||= setTimeout(keepNow, page.pause);
 }
 
 async function keepNow() {
   clearTimeout(page.timers.keep);
   page.timers.keep = 0;
-  if (!page.can.keep || !isUnsaved() || page.fault) return;
+  if (!isUnsaved() || page.fault) return;
   const begun = performance.now();
   const { kept } = await ask({ do: 'keep' });
   page.isKept = kept !== undefined && page.seat.keep(kept);
@@ -266,7 +263,7 @@ function forget() {
 /** What a former window kept is shown before there is a connection. */
 async function takeKept() {
   const kept = page.seat.kept();
-  if (!kept || !page.can.keep) return;
+  if (!kept) return;
   page.isKept = true;
   const reply = await ask({ do: 'enter', pad: page.pad, token: page.seat.token, sessions: sessions(), kept });
   if (reply.refused) page.seat.forget();
@@ -314,7 +311,7 @@ function showTools() {
   $('undo').disabled = !mayWrite || !canUndo;
   $('redo').disabled = !mayWrite || !canRedo;
   $('download').disabled = $('who').disabled = !page.isShown;
-  $('past').disabled = !page.can.slide || !isInside();
+  $('past').disabled = !isInside();
   for (const button of document.querySelectorAll('[data-style]')) {
     button.disabled = !mayWrite;
     button.setAttribute('aria-pressed', String(mayWrite && page.text.isOn(button.dataset.style)));
@@ -451,7 +448,7 @@ function listen() {
   document.addEventListener('visibilitychange', () => document.visibilityState === 'hidden' && keepNow());
   addEventListener('beforeunload', (event) => {
     if (isUnsaved()) keepNow();
-    if (isUnsaved() && (page.cannotKeep || !page.can.keep)) event.preventDefault();
+    if (isUnsaved() && page.cannotKeep) event.preventDefault();
   });
   // the browser's own undo, as of its menu, would go past padedit
   page.text.cm.getInputField().addEventListener('beforeinput', (event) => {
@@ -503,14 +500,6 @@ function showStart() {
   $('wanted').focus();
 }
 
-/** Which requests this padedit knows: one that it doesn't is refused for its `do`. */
-async function learn() {
-  for (const request of Object.keys(page.can)) {
-    const { refused } = await page.program.ask({ do: request });
-    page.can[request] = refused !== 'shape do';
-  }
-}
-
 async function begin() {
   $('head').hidden = $('main').hidden = false;
   setText('name', page.pad);
@@ -518,7 +507,6 @@ async function begin() {
   page.text = new PadText($('text'), { label: 'Text of the pad', readOnly: true, typed: edit, moved: () => page.isShown && showTools(), settled: hearAll, keys: KEYS });
   page.past = new History({ ask: (to) => ask({ do: 'slide', to }) });
   page.program = await Program.start(new URL('padedit.wasm', import.meta.url), (why) => fail(new Error(why)));
-  await learn();
   page.seat = await takeSeat(page.pad);
   const lostOnce = () => {
     document.documentElement.dataset.lost = 'true';

@@ -1,11 +1,11 @@
 -- An edit that isn't refused fits what is shown.
-use Rattle.std.proofs.Common.{◌≡◌, ℕ, zero, suc, ◌+◌, ◌-◌, ◌≤◌, nat_lt, Bool, true, false, cond, not, ◌&&◌, ◌||◌, if◌then◌else◌, List, [], ◌∷◌, ◌++◌, map, length, Option, Some, None, refl, sym, ap, ◌∙◌, arith}
+use Rattle.std.proofs.Common.{◌≡◌, ℕ, zero, suc, ◌+◌, ◌-◌, ◌≤◌, nat_lt, Bool, true, false, cond, not, ◌&&◌, ◌||◌, if◌then◌else◌, List, [], ◌∷◌, ◌++◌, length, Option, Some, None, refl, sym, ap, ◌∙◌, arith}
 use Rattle.std.proofs.lemmas.Bool.Decides.{nat_tests}
 use Rattle.ep_units.specs.Text.{Text, is_high, is_low, is_paired, is_well_formed}
-use Rattle.ep_attr.specs.AttrMap.{AttrMap, after, none}
+use Rattle.ep_attr.specs.AttrMap.{AttrMap, none}
 use Rattle.ep_attr.proofs.SameMap.{both_true, first_true, second_true}
-use Rattle.ep_cs.specs.Doc.{Cell, Doc, text_of}
-use Rattle.ep_cs.specs.Edit.{Place, Edit, Step, edit_of, inserts, settle}
+use Rattle.ep_cs.specs.Doc.{Doc, text_of}
+use Rattle.ep_cs.specs.Edit.{Place, Edit, Step, edit_of, inserts}
 use Rattle.ep_cs.specs.EditFits.{fits}
 use Rattle.ep_cs.specs.Fits.{goes_on, keeps_pairs}
 use Rattle.ep_cs.specs.Fitting.{first_cut}

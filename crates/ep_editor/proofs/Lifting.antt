@@ -1,8 +1,8 @@
 -- What comes of a call inside of a pad, as of the editor; and the ways to an answer.
-use Rattle.std.proofs.Common.{◌≡◌, ◌⊎◌, inl, inr, Bool, true, false, if◌then◌else◌, Option, Some, None, Result, Ok, Err, refl, sym, ap, ◌∙◌}
+use Rattle.std.proofs.Common.{◌≡◌, ◌⊎◌, inl, inr, Option, None, Result, Ok, Err, sym, ap, ◌∙◌}
 use Rattle.ep_cs.specs.Change.{Change}
 use Rattle.ep_cs.specs.Edit.{Edit}
-use Rattle.ep_history.specs.Kept.{KeptClient, kept_edited}
+use Rattle.ep_undo.specs.Undo.{UndoState, undo_edited}
 use Rattle.ep_invert.specs.Refusal.{cause}
 use Rattle.ep_invert.specs.declared.bad.SpliceBad.{SpliceBad}
 use Rattle.ep_invert.specs.declared.bad.SpliceBad.TheVariants as splice
@@ -13,7 +13,6 @@ use Rattle.ep_editor.specs.Replies.{Reply, Refuses}
 use Rattle.ep_editor.specs.Requests.{within}
 use Rattle.ep_editor.specs.declared.bad.EditorBad.{EditorBad}
 use Rattle.ep_editor.specs.declared.bad.EditorBad.TheVariants as bad
-use Rattle.ep_editor.specs.declared.editor.Editor.{Editor}
 use Rattle.ep_editor.specs.declared.editor.Editor.TheVariants.{Inside}
 use Rattle.ep_editor.specs.declared.entered.Entered.{Entered}
 
@@ -32,6 +31,6 @@ unmade said why splice.Place o e p w h = inr (ap (λ x. makes said x e p) (sym h
 unmade said why (splice.CutsPair at) o e p w h = inr (ap (λ x. makes said x e p) (sym h) ∙ ap (λ x. (Refuses x, p)) (sym w))
 
 -- an edit that is made
-pub made : (said : Reply) (o : Option SpliceBad) (e : Edit) (c : Change) (p : Entered) (k : KeptClient) → None ≡ o → c.edit ≡ e → k ≡ kept_edited c.edit p.client
-    → makes said o e p ≡ (said, with_client p k)
-made said o e c p k n h m = ap (λ x. makes said x e p) (sym n) ∙ ap (λ x. (said, with_client p (kept_edited x p.client))) (sym h) ∙ ap (λ x. (said, with_client p x)) (sym m)
+pub made : (said : Reply) (o : Option SpliceBad) (e : Edit) (c : Change) (p : Entered) (s : UndoState) → None ≡ o → c.edit ≡ e → s ≡ undo_edited c.edit p.client
+    → makes said o e p ≡ (said, with_client p s)
+made said o e c p s n h m = ap (λ x. makes said x e p) (sym n) ∙ ap (λ x. (said, with_client p (undo_edited x p.client))) (sym h) ∙ ap (λ x. (said, with_client p x)) (sym m)

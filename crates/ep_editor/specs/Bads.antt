@@ -1,4 +1,5 @@
 -- Refusals of the crates below, as those of a request.
+use Rattle.std.specs.Prelude.{◌≡◌, ◌⊎◌, Option, Some, None}
 use Rattle.ep_client.specs.declared.bad.ClientBad.{ClientBad}
 use Rattle.ep_client.specs.declared.bad.ClientBad.TheVariants as client
 use Rattle.ep_invert.specs.declared.bad.SpliceBad.{SpliceBad}
@@ -23,3 +24,8 @@ abbrev pub bad_of_splice : SpliceBad → EditorBad
 bad_of_splice splice.Place = bad.Place
 bad_of_splice (splice.CutsPair at) = bad.CutsPair at
 bad_of_splice splice.NoMemory = bad.NoMemory
+
+-- a refusal is this one, or want of memory
+abbrev pub IsBadOf : EditorBad → Option ClientBad → Type 0
+IsBadOf why None = why ≡ bad.NoMemory
+IsBadOf why (Some b) = (why ≡ bad.NoMemory) ⊎ (why ≡ bad_of_client b)

@@ -1,5 +1,7 @@
 pub mod Bads
 pub mod Replies
+pub mod Past
+pub mod Kept
 pub mod Inside
 pub mod Requests
 pub mod Comes

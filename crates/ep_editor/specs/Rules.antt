@@ -1,5 +1,5 @@
 -- What an editor does to its client, by the client rules.
-use Rattle.std.specs.Prelude.{◌≡◌, ℕ, true, false, List, [], ◌∷◌, ◌++◌, Option, Some, None}
+use Rattle.std.specs.Prelude.{◌≡◌, ℕ, true, false, List, [], ◌∷◌, ◌++◌, Option, Some, None, IfSome}
 use Rattle.ep_units.specs.Text.{Text, is_well_formed}
 use Rattle.ep_units.specs.declared.session.Session.{Session}
 use Rattle.ep_cs.specs.Doc.{Doc}
@@ -12,7 +12,8 @@ use Rattle.ep_client.specs.Refusals.{hear_fault}
 use Rattle.ep_client.specs.declared.heard.Heard.{Heard}
 use Rattle.ep_wire_words.specs.declared.client.ClientMsg.{ClientMsg}
 use Rattle.ep_wire_words.specs.declared.client.ClientMsg.TheVariants as msgs
-use Rattle.ep_editor.specs.Inside.{own_map, put_edit, user_changes}
+use Rattle.ep_undo.specs.Undo.{top}
+use Rattle.ep_editor.specs.Inside.{kept_of, own_map, put_edit, user_changes}
 use Rattle.ep_editor.specs.Replies.{Reply, Sends, Paints, Changes, Nothing}
 use Rattle.ep_editor.specs.Requests.{Request, answer}
 use Rattle.ep_editor.specs.Requests as request
@@ -80,17 +81,24 @@ abbrev pub IfInside : Editor → (Entered → Type 0) → Type 0
 IfInside (Inside p) P = P p
 IfInside s P = Unit {0}
 
--- the text that is put is one
-abbrev pub IsText : Request → Type 0
-IsText (request.Edits at drop put with_) = is_well_formed put ≡ true
-IsText r = Unit {0}
+-- it is asked of the pad that is entered: where one is entered with what was kept, another client begins
+abbrev pub IsOfPad : Request → Type 0
+IsOfPad (request.EntersAgain wanted k) = ⊥
+IsOfPad r = Unit {0}
+
+-- the text that is put is one; what is taken back, or made again, fits the view
+abbrev pub IsFitting : Request → Entered → Type 0
+IsFitting (request.Edits at drop put with_) p = is_well_formed put ≡ true
+IsFitting request.Undoes p = IfSome (top p.client.undos) (λ e. fits e (kept_of p).view ≡ true)
+IsFitting request.Redoes p = IfSome (top p.client.redos) (λ e. fits e (kept_of p).view ≡ true)
+IsFitting r p = Unit {0}
 
 -- the client takes only steps of the rules, and what is sent of edits is what these submit
 pub record KeepsRules (r : Request) (p : Entered) : Type 0 where
   pub steps : List Step
-  pub may : MayTakeAll steps p.client
-  pub client : IfInside (answer r (Inside p)).1 (λ q. q.client ≡ all_taken steps p.client)
-  pub sent : edits_sent (answer r (Inside p)).0 ≡ all_sent steps p.client
+  pub may : MayTakeAll steps (kept_of p)
+  pub client : IfInside (answer r (Inside p)).1 (λ q. kept_of q ≡ all_taken steps (kept_of p))
+  pub sent : edits_sent (answer r (Inside p)).0 ≡ all_sent steps (kept_of p)
 
 -- ---- what is shown
 
@@ -111,8 +119,10 @@ shown_after author r reply doc = shown_by reply doc
 abbrev pub IsSameWork : KeptClient → KeptClient → Type 0
 IsSameWork a b = (a.rev ≡ b.rev) × (a.doc ≡ b.doc) × (a.sent_in ≡ b.sent_in) × (a.sent ≡ b.sent) × (a.local ≡ b.local) × (a.view ≡ b.view)
 
--- of the connection alone
+-- of the connection, or of what is kept or was there before, alone
 abbrev pub IsOfConnection : Request → Type 0
 IsOfConnection request.Loses = Unit {0}
 IsOfConnection request.Returns = Unit {0}
+IsOfConnection request.Keeps = Unit {0}
+IsOfConnection (request.Slides to) = Unit {0}
 IsOfConnection r = ⊥

@@ -1,19 +1,23 @@
 //! The editor, with a call for each request.
 
-ghost use Rattle.std.specs.Prelude.{◌≡◌, IfOk, Ok};
+ghost use Rattle.std.specs.Prelude.{◌≡◌, IfOk, None, Ok};
 ghost use Rattle.ep_units.specs.Utf8.{units_of};
-ghost use Rattle.ep_editor.specs.Comes.{Answers, Comes, FitsShown, PaintsShown, changed, nothing, said, sends, sends_if};
+ghost use Rattle.ep_editor.specs.Comes.{Answers, Comes, FitsShown, PaintsShown, RemakesShown, changed, keeps_it, makes_again, nothing, resumes, said, sends, sends_if, slid};
+ghost use Rattle.ep_editor.specs.Kept.{kept_fault};
 ghost use Rattle.ep_editor.specs.Requests.{answer, begun, denied, heard_rev, is_busy, state_of, welcomed};
-ghost use Rattle.ep_editor.specs.Requests.Request.{Edits, Enters, Formats, Hears, Loses, Returns, Submits};
+ghost use Rattle.ep_editor.specs.Requests.Request.{Edits, Enters, EntersAgain, Formats, Hears, Keeps, Loses, Redoes, Returns, Slides, Submits, Undoes};
 ghost use Rattle.ep_editor.specs.declared.editor.Editor.TheVariants as editor;
 
 use crate::bad::EditorBad;
 use crate::entered::Entered;
+use crate::kept::Kept;
 use crate::ready::ready;
+use crate::slider::{Slid, Slider};
 use ep_attr::AttrMap;
 use ep_client::Client;
 use ep_cs::Change;
 use ep_hearing::{Meaning, Welcome, meant};
+use ep_undo::UndoClient;
 use ep_units::Units;
 use ep_wire::read_server;
 use ep_wire_words::{ClientMsg, Listed, ServerMsg, Word};
@@ -54,6 +58,10 @@ pub enum Said {
     Nothing,
     /// The server closed.
     Closed(Word),
+    /// The pad that was entered is gone, and another has its name. There is no connection.
+    Renewed,
+    /// Steps of the history came: what the timeslider does now.
+    Slid(Slid),
 }
 
 /// What an editor inside of a pad is.
@@ -66,6 +74,10 @@ pub struct State {
     /// Something wasn't submitted.
     pub unsent: bool,
     pub connected: bool,
+    /// Something can be taken back.
+    pub can_undo: bool,
+    /// Something that was taken back can be made again.
+    pub can_redo: bool,
 }
 
 impl Editor {
@@ -89,10 +101,27 @@ impl Editor {
         Ok(first)
     }
 
+    /// A pad is to be entered with what was kept of an editor of it: what is to be sent first. The view is to be shown.
+    pub fn enter_again(
+        &mut self,
+        alloc: Global,
+        wanted: Wanted,
+        kept: Kept,
+    ) -> Result<ClientMsg, EditorBad>
+        ensures { Comes resumes result self.old self.new (answer (EntersAgain wanted kept) self.old) }
+    {
+        if self.is_busy() {
+            return Err(EditorBad::Turn);
+        }
+        let entered = kept.enter(alloc, wanted)?;
+        let first = entered.first(alloc)?;
+        *self = Editor::Inside(entered);
+        Ok(first)
+    }
+
     /// A message came from the server, which is this text.
     pub fn heard(&mut self, alloc: Global, text: &str) -> Result<Said, EditorBad>
         ensures replies { Answers text.now result self.old self.new }
-        // A change that is told has the claims of what was shown.
         ensures fits { IfOk result (FitsShown self.old) }
     {
         let msg = read_server(alloc, text, MOST_BYTES)?;
@@ -134,6 +163,28 @@ impl Editor {
         }
     }
 
+    /// The last edit that isn't taken back is taken back, if there is one: the change that this is.
+    pub fn undo(&mut self, alloc: Global) -> Result<Option<Change>, EditorBad>
+        ensures replies { Comes makes_again result self.old self.new (answer Undoes self.old) }
+        ensures fits { IfOk result (RemakesShown self.old) }
+    {
+        match self {
+            Editor::Inside(entered) => entered.undo(alloc),
+            Editor::Outside | Editor::Entering(_) => Err(EditorBad::Turn),
+        }
+    }
+
+    /// The last that was taken back is made again, if there is one: the change that this is.
+    pub fn redo(&mut self, alloc: Global) -> Result<Option<Change>, EditorBad>
+        ensures replies { Comes makes_again result self.old self.new (answer Redoes self.old) }
+        ensures fits { IfOk result (RemakesShown self.old) }
+    {
+        match self {
+            Editor::Inside(entered) => entered.redo(alloc),
+            Editor::Outside | Editor::Entering(_) => Err(EditorBad::Turn),
+        }
+    }
+
     /// What is due is to be sent.
     pub fn submit(&mut self, alloc: Global) -> Result<Option<ClientMsg>, EditorBad>
         ensures { Comes sends_if result self.old self.new (answer Submits self.old) }
@@ -168,6 +219,27 @@ impl Editor {
         }
     }
 
+    /// What would be lost where it is closed. It isn't refused where it is entered with again.
+    pub fn keep(&self, alloc: Global) -> Result<Kept, EditorBad>
+        ensures replies { Comes keeps_it result self.now self.now (answer Keeps self.now) }
+        ensures fits { IfOk result (λ k. kept_fault k ≡ None) }
+    {
+        match self {
+            Editor::Inside(entered) => entered.keep(alloc),
+            Editor::Outside | Editor::Entering(_) => Err(EditorBad::Turn),
+        }
+    }
+
+    /// The document of a revision is wanted, of those that it has heard: that, or what is to be sent to come to it.
+    pub fn slide(&mut self, alloc: Global, to: u64) -> Result<Slid, EditorBad>
+        ensures { Comes slid result self.old self.new (answer (Slides to) self.old) }
+    {
+        match self {
+            Editor::Inside(entered) => entered.slide(alloc, to),
+            Editor::Outside | Editor::Entering(_) => Err(EditorBad::Turn),
+        }
+    }
+
     /// What it is, inside of a pad.
     pub fn state(&self) -> Option<State>
         ensures { result ≡ state_of self.now }
@@ -192,7 +264,7 @@ impl Editor {
         ensures { result ≡ heard_rev self.now }
     {
         match self {
-            Editor::Inside(entered) => entered.client.rev(),
+            Editor::Inside(entered) => entered.client.client().rev(),
             Editor::Outside | Editor::Entering(_) => 0,
         }
     }
@@ -236,7 +308,9 @@ impl Editor {
             rev,
             doc,
         } = welcome;
+        let slider = Slider::at(alloc, rev, doc.copy(alloc)?);
         let client = Client::start(alloc, doc, rev, session)?;
+        let client = UndoClient::start(alloc, client);
         match replace(self, Editor::Outside) {
             Editor::Entering(wanted) => {
                 *self = Editor::Inside(Entered {
@@ -246,6 +320,7 @@ impl Editor {
                     birth,
                     client,
                     returning: false,
+                    slider,
                 });
                 Ok(Said::Shown)
             }

@@ -1,25 +1,28 @@
 //! An editor inside of a pad.
 
-ghost use Rattle.std.specs.Prelude.{◌≡◌, ◌+◌, ◌∷◌, [], true, false, codes, length, IfOk, OnOk, OnErr};
+ghost use Rattle.std.specs.Prelude.{◌≡◌, ◌+◌, ◌∷◌, [], true, false, Some, codes, length, IfOk, IfSome, OnOk, OnErr};
 ghost use Rattle.ep_units.specs.Text.{is_well_formed};
 ghost use Rattle.ep_attr.specs.AttrMap.{of_pairs};
-ghost use Rattle.ep_history.specs.Kept.{kept_edited};
 ghost use Rattle.ep_invert.specs.Paint.{paint};
 ghost use Rattle.ep_invert.specs.Refusal.{refusal, splice_bad};
 ghost use Rattle.ep_wire_words.specs.declared.client.ClientMsg.TheVariants as msgs;
 ghost use Rattle.ep_cs.specs.Fits.{Fits};
-ghost use Rattle.ep_editor.specs.Comes.{Comes, FitsThat, changed, nothing, said, sends, sends_if};
-ghost use Rattle.ep_editor.specs.Inside.{closes, cut_off, edited, formatted, hears, hears_back, hears_if, hears_more, hears_news, hears_now, hears_own, inside_state, is_busy_inside, is_due, is_head, is_long, loses, own_map, put_edit, putting, resumed, resumed_with, resume_of, returns, submitted};
+ghost use Rattle.ep_undo.specs.Undo.{undo_edited};
+ghost use Rattle.ep_editor.specs.Comes.{Comes, FitsThat, changed, makes_again, nothing, said, sends, sends_if};
+ghost use Rattle.ep_editor.specs.Replies.{ready};
+ghost use Rattle.ep_editor.specs.Inside.{closes, cut_off, edited, formatted, hears, hears_back, hears_if, hears_more, hears_news, hears_now, hears_own, inside_state, is_busy_inside, is_due, is_head, is_long, kept_of, loses, own_map, put_edit, putting, redoes, renewed, resumed, resumed_with, resume_of, returns, submitted, undoes};
 
 use crate::bad::EditorBad;
 use crate::editor::{Said, State, Wanted};
 use crate::ready::ready;
+use crate::slider::Slider;
 use ep_apply::Doc;
 use ep_attr::{Attr, AttrMap};
-use ep_client::{Client, Heard, Submission, Told};
+use ep_client::{Heard, Submission, Told};
 use ep_cs::{Change, MOST_UNITS};
 use ep_hearing::{Back, Meaning, News};
 use ep_invert::{SpliceBad, paint, splice};
+use ep_undo::UndoClient;
 use ep_units::{NoMemory, Units};
 use ep_wire_words::{ClientMsg, Resume, Word};
 use std::alloc::Global;
@@ -28,36 +31,66 @@ use std::alloc::Global;
 const AUTHOR: [u16; 6] = [97, 117, 116, 104, 111, 114];
 
 /// A pad as an editor has it.
-#[derive(Drop)]
 pub struct Entered {
     pub wanted: Wanted,
     /// Who the client is.
     pub author: Units,
     pub read_only: bool,
     pub birth: u64,
-    pub client: Client,
+    pub client: UndoClient,
     /// The message that resumes was sent, and its answer is awaited.
     pub returning: bool,
+    pub slider: Slider,
+}
+
+impl Drop for Entered {
+    fn drop(self) {
+        let Entered {
+            wanted: _,
+            author: _,
+            read_only: _,
+            birth: _,
+            client: _,
+            returning: _,
+            slider: _,
+        } = self;
+    }
 }
 
 impl Entered {
     pub(crate) fn state(&self) -> State
         ensures { result ≡ inside_state self.now }
     {
-        let (waiting, unsent) = self.client.pending();
+        let client = self.client.client();
+        let (waiting, unsent) = client.pending();
         State {
-            rev: self.client.rev(),
+            rev: client.rev(),
             waiting,
             unsent,
-            connected: self.client.is_connected(),
+            connected: client.is_connected(),
+            can_undo: self.client.can_undo(),
+            can_redo: self.client.can_redo(),
         }
+    }
+
+    /// What is to be shown.
+    pub fn view(&self) -> &Doc
+        ensures { result.now ≡ (kept_of self.now).view }
+    {
+        self.client.client().view()
+    }
+
+    pub(crate) fn is_connected(&self) -> bool
+        ensures { result ≡ (kept_of self.now).connected }
+    {
+        self.client.client().is_connected()
     }
 
     /// Whether it is connected, or about to be.
     pub(crate) fn is_busy(&self) -> bool
         ensures { result ≡ is_busy_inside self.now }
     {
-        self.returning || self.client.is_connected()
+        self.returning || self.is_connected()
     }
 
     /// The attributes of what the author puts: the author's own counts last.
@@ -78,11 +111,11 @@ impl Entered {
         attrs: &AttrMap,
     ) -> Result<Change, SpliceBad>
         requires text { is_well_formed put.now ≡ true }
-        requires short { is_long self.now.client.view drop put.now ≡ false }
-        ensures change { IfOk result (λ c. c.edit ≡ put_edit at drop put.now attrs.now self.now.client.view) }
-        ensures refused { refusal result ≡ splice_bad (put_edit at drop put.now attrs.now self.now.client.view) (at + drop) self.now.client.view }
+        requires short { is_long (kept_of self.now).view drop put.now ≡ false }
+        ensures change { IfOk result (λ c. c.edit ≡ put_edit at drop put.now attrs.now (kept_of self.now).view) }
+        ensures refused { refusal result ≡ splice_bad (put_edit at drop put.now attrs.now (kept_of self.now).view) (at + drop) (kept_of self.now).view }
     {
-        splice(alloc, self.client.view(), at, drop, put, attrs)
+        splice(alloc, self.view(), at, drop, put, attrs)
     }
 
     /// The change of the view that sets attributes on so many units.
@@ -93,11 +126,11 @@ impl Entered {
         count: u32,
         attrs: &AttrMap,
     ) -> Result<Change, SpliceBad>
-        ensures change { IfOk result (λ c. c.edit ≡ paint (length self.now.client.view) at count attrs.now) }
-        ensures fits { IfOk result (λ c. Fits c self.now.client.view) }
-        ensures refused { refusal result ≡ splice_bad (paint (length self.now.client.view) at count attrs.now) (at + count) self.now.client.view }
+        ensures change { IfOk result (λ c. c.edit ≡ paint (length (kept_of self.now).view) at count attrs.now) }
+        ensures fits { IfOk result (λ c. Fits c (kept_of self.now).view) }
+        ensures refused { refusal result ≡ splice_bad (paint (length (kept_of self.now).view) at count attrs.now) (at + count) (kept_of self.now).view }
     {
-        paint(alloc, self.client.view(), at, count, attrs)
+        paint(alloc, self.view(), at, count, attrs)
     }
 
     /// The change of the view that puts a text there is made.
@@ -110,7 +143,7 @@ impl Entered {
         with: &AttrMap,
     ) -> Result<(), EditorBad>
         requires text { is_well_formed put.now ≡ true }
-        requires short { is_long self.old.client.view drop put.now ≡ false }
+        requires short { is_long (kept_of self.old).view drop put.now ≡ false }
         ensures { Comes nothing result self.old self.new (putting at drop put.now with.now self.old) }
     {
         let attrs = self.own_map(alloc, with)?;
@@ -133,7 +166,7 @@ impl Entered {
         if self.read_only {
             return Err(EditorBad::ReadOnly);
         }
-        if is_long(self.client.view(), drop, put) {
+        if is_long(self.view(), drop, put) {
             return Err(EditorBad::Long);
         }
         self.put(alloc, at, drop, put, with)
@@ -147,7 +180,7 @@ impl Entered {
         attrs: &AttrMap,
     ) -> Result<Change, EditorBad>
         ensures replies { Comes changed result self.old self.new (formatted at count attrs.now self.old) }
-        ensures fits { IfOk result (λ c. Fits c self.old.client.view) }
+        ensures fits { IfOk result (λ c. Fits c (kept_of self.old).view) }
     {
         if self.read_only {
             return Err(EditorBad::ReadOnly);
@@ -155,6 +188,20 @@ impl Entered {
         let change = self.painted(alloc, at, count, attrs)?;
         make_edit(alloc, &mut self.client, &change)?;
         Ok(change)
+    }
+
+    pub(crate) fn undo(&mut self, alloc: Global) -> Result<Option<Change>, EditorBad>
+        ensures replies { Comes makes_again result self.old self.new (undoes self.old) }
+        ensures fits { IfOk result (λ o. IfSome o (λ c. Fits c (kept_of self.old).view)) }
+    {
+        Ok(self.client.undo(alloc)?)
+    }
+
+    pub(crate) fn redo(&mut self, alloc: Global) -> Result<Option<Change>, EditorBad>
+        ensures replies { Comes makes_again result self.old self.new (redoes self.old) }
+        ensures fits { IfOk result (λ o. IfSome o (λ c. Fits c (kept_of self.old).view)) }
+    {
+        Ok(self.client.redo(alloc)?)
     }
 
     pub(crate) fn submit(&mut self, alloc: Global) -> Result<Option<ClientMsg>, EditorBad>
@@ -180,6 +227,7 @@ impl Entered {
     {
         self.client.lost();
         self.returning = false;
+        self.slider.asked = None;
     }
 
     pub(crate) fn come_back(&mut self, alloc: Global) -> Result<ClientMsg, EditorBad>
@@ -188,10 +236,17 @@ impl Entered {
         if self.is_busy() {
             return Err(EditorBad::Turn);
         }
-        let resume = self.resume(alloc)?;
-        let first = ready(alloc, &self.wanted, Some(resume))?;
+        let first = self.first(alloc)?;
         self.returning = true;
         Ok(first)
+    }
+
+    /// The message with which it comes back.
+    pub(crate) fn first(&self, alloc: Global) -> Result<ClientMsg, NoMemory>
+        ensures { IfOk result (λ m. m ≡ ready self.now.wanted (Some (resume_of self.now))) }
+    {
+        let resume = self.resume(alloc)?;
+        ready(alloc, &self.wanted, Some(resume))
     }
 
     /// What it comes back with.
@@ -199,7 +254,7 @@ impl Entered {
         ensures { IfOk result (λ r. r ≡ resume_of self.now) }
     {
         Ok(Resume {
-            rev: self.client.rev(),
+            rev: self.client.client().rev(),
             birth: Some(self.birth),
             author: Some(self.author.copy(alloc)?),
         })
@@ -207,23 +262,24 @@ impl Entered {
 
     pub(crate) fn hear(&mut self, alloc: Global, meaning: Meaning) -> Result<Said, EditorBad>
         ensures replies { Comes said result self.old self.new (hears meaning self.old) }
-        ensures fits { IfOk result (λ x. FitsThat x self.old.client.view) }
+        ensures fits { IfOk result (λ x. FitsThat x (kept_of self.old).view) }
     {
         match meaning {
             Meaning::Own(heard) => self.hear_own(alloc, &heard),
             Meaning::News(news) => self.hear_now(alloc, news),
             Meaning::Back(back, news) => self.hear_back(alloc, back, news),
             Meaning::Closing(word) => self.close(word),
-            Meaning::Welcome(_) | Meaning::Slid(_) => Err(EditorBad::Turn),
+            Meaning::Slid(steps) => Ok(Said::Slid(self.hear_slid(alloc, &steps)?)),
+            Meaning::Welcome(_) => Err(EditorBad::Turn),
         }
     }
 
     /// It hears of its own submission.
     fn hear_own(&mut self, alloc: Global, heard: &Heard) -> Result<Said, EditorBad>
         ensures replies { Comes said result self.old self.new (hears_own heard.now self.old) }
-        ensures fits { IfOk result (λ x. FitsThat x self.old.client.view) }
+        ensures fits { IfOk result (λ x. FitsThat x (kept_of self.old).view) }
     {
-        if !self.client.is_connected() {
+        if !self.is_connected() {
             return Err(EditorBad::Turn);
         }
         self.client.hear(alloc, heard)?;
@@ -233,9 +289,9 @@ impl Entered {
     /// It hears the next revision, if it is connected.
     fn hear_now(&mut self, alloc: Global, news: News) -> Result<Said, EditorBad>
         ensures replies { Comes said result self.old self.new (hears_now news self.old) }
-        ensures fits { IfOk result (λ x. FitsThat x self.old.client.view) }
+        ensures fits { IfOk result (λ x. FitsThat x (kept_of self.old).view) }
     {
-        if !self.client.is_connected() {
+        if !self.is_connected() {
             return Err(EditorBad::Turn);
         }
         self.hear_news(alloc, news)
@@ -244,7 +300,7 @@ impl Entered {
     /// It hears the next revision.
     fn hear_news(&mut self, alloc: Global, news: News) -> Result<Said, EditorBad>
         ensures replies { Comes said result self.old self.new (hears_news news self.old) }
-        ensures fits { IfOk result (λ x. FitsThat x self.old.client.view) }
+        ensures fits { IfOk result (λ x. FitsThat x (kept_of self.old).view) }
     {
         let News {
             rev,
@@ -257,7 +313,7 @@ impl Entered {
             change,
             session,
         };
-        let told = self.client.told_of(&heard);
+        let told = self.client.client().told_of(&heard);
         let change = self.client.hear_change(alloc, &heard)?;
         Ok(match told {
             Told::Commit => Said::Nothing,
@@ -273,9 +329,9 @@ impl Entered {
         news: Option<News>,
     ) -> Result<Said, EditorBad>
         ensures replies { Comes said result self.old self.new (hears_back back news self.old) }
-        ensures fits { IfOk result (λ x. FitsThat x self.old.client.view) }
+        ensures fits { IfOk result (λ x. FitsThat x (kept_of self.old).view) }
     {
-        if self.client.is_connected() {
+        if self.is_connected() {
             return self.hear_more(alloc, back, news);
         }
         self.resumed(alloc, back, news)
@@ -289,7 +345,7 @@ impl Entered {
         news: Option<News>,
     ) -> Result<Said, EditorBad>
         ensures replies { Comes said result self.old self.new (hears_more back news self.old) }
-        ensures fits { IfOk result (λ x. FitsThat x self.old.client.view) }
+        ensures fits { IfOk result (λ x. FitsThat x (kept_of self.old).view) }
     {
         match news {
             Some(news) if back.birth == self.birth => self.hear_news(alloc, news),
@@ -301,19 +357,33 @@ impl Entered {
     fn is_due(&self, back: Back, news: &Option<News>) -> bool
         ensures { result ≡ is_due back news.now self.now }
     {
-        self.returning && back.birth == self.birth && is_head(self.client.rev(), back.head, news)
+        self.returning
+            && back.birth == self.birth
+            && is_head(self.client.client().rev(), back.head, news)
     }
 
     /// The answer to the message that resumes, if it is due.
     fn resumed(&mut self, alloc: Global, back: Back, news: Option<News>) -> Result<Said, EditorBad>
-        requires { self.old.client.connected ≡ false }
+        requires { (kept_of self.old).connected ≡ false }
         ensures replies { Comes said result self.old self.new (resumed back news self.old) }
-        ensures fits { IfOk result (λ x. FitsThat x self.old.client.view) }
+        ensures fits { IfOk result (λ x. FitsThat x (kept_of self.old).view) }
     {
         if self.is_due(back, &news) {
             return self.reconnect(alloc, back, news);
         }
-        Err(EditorBad::Turn)
+        self.renewed(back)
+    }
+
+    /// The answer to the message that resumes is of another birth, or isn't due.
+    fn renewed(&mut self, back: Back) -> Result<Said, EditorBad>
+        ensures replies { Comes said result self.old self.new (renewed back self.old) }
+        ensures fits { IfOk result (λ x. FitsThat x (kept_of self.old).view) }
+    {
+        if !(self.returning && back.birth != self.birth) {
+            return Err(EditorBad::Turn);
+        }
+        self.cut_off();
+        Ok(Said::Renewed)
     }
 
     /// It is connected again. What is heard with that comes first here: it leads to the same, and can be refused.
@@ -323,10 +393,10 @@ impl Entered {
         back: Back,
         news: Option<News>,
     ) -> Result<Said, EditorBad>
-        requires off { self.old.client.connected ≡ false }
+        requires off { (kept_of self.old).connected ≡ false }
         requires due { is_due back news self.old ≡ true }
         ensures replies { Comes said result self.old self.new (resumed_with back news self.old) }
-        ensures fits { IfOk result (λ x. FitsThat x self.old.client.view) }
+        ensures fits { IfOk result (λ x. FitsThat x (kept_of self.old).view) }
     {
         match self.hear_if(alloc, news) {
             Ok(said) => {
@@ -340,7 +410,7 @@ impl Entered {
 
     fn hear_if(&mut self, alloc: Global, news: Option<News>) -> Result<Said, EditorBad>
         ensures replies { Comes said result self.old self.new (hears_if news self.old) }
-        ensures fits { IfOk result (λ x. FitsThat x self.old.client.view) }
+        ensures fits { IfOk result (λ x. FitsThat x (kept_of self.old).view) }
     {
         match news {
             Some(news) => self.hear_news(alloc, news),
@@ -351,7 +421,7 @@ impl Entered {
     /// The server closed.
     fn close(&mut self, word: Word) -> Result<Said, EditorBad>
         ensures replies { Comes said result self.old self.new (closes word self.old) }
-        ensures fits { IfOk result (λ x. FitsThat x self.old.client.view) }
+        ensures fits { IfOk result (λ x. FitsThat x (kept_of self.old).view) }
     {
         if !self.is_busy() {
             return Err(EditorBad::Turn);
@@ -394,8 +464,8 @@ fn is_long(doc: &Doc, drop: u32, put: &Units) -> bool
 
 /// The client makes an edit that fits its view. By the rules it refuses none; if it did, that would be answered as want of
 /// memory.
-fn make_edit(alloc: Global, client: &mut Client, change: &Change) -> Result<(), NoMemory>
-    ensures made { OnOk result (client.new ≡ kept_edited change.now.edit client.old) }
+fn make_edit(alloc: Global, client: &mut UndoClient, change: &Change) -> Result<(), NoMemory>
+    ensures made { OnOk result (client.new ≡ undo_edited change.now.edit client.old) }
     ensures kept { OnErr result (client.new ≡ client.old) }
 {
     match client.edit(alloc, change) {

@@ -4,6 +4,7 @@
 
 mod answer;
 mod asked;
+mod kept;
 mod lines;
 mod members;
 mod refusal;

@@ -22,6 +22,8 @@ pub enum Member {
     Count,
     Key,
     Value,
+    Kept,
+    To,
 }
 
 impl Member {
@@ -39,6 +41,8 @@ impl Member {
             Member::Count => "count",
             Member::Key => "key",
             Member::Value => "value",
+            Member::Kept => "kept",
+            Member::To => "to",
         }
     }
 }
@@ -65,6 +69,16 @@ pub fn number_of(request: &Value, member: Member) -> Result<u32, Stopped> {
         .and_then(Value::as_u64)
         .ok_or(member)?;
     Ok(u32::try_from(number).map_err(|_| member)?)
+}
+
+/// A revision.
+pub fn revision_of(request: &Value, member: Member) -> Result<u64, Stopped> {
+    Ok(
+        request
+            .get(member.name())
+            .and_then(Value::as_u64)
+            .ok_or(member)?,
+    )
 }
 
 pub fn units_of(alloc: Global, request: &Value, member: Member) -> Result<Units, Stopped> {

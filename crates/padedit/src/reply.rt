@@ -44,12 +44,12 @@ impl Reply {
         }
     }
 
-    fn put(&mut self, alloc: Global, name: &str, value: Value) -> Result<(), AllocError> {
+    pub fn put(&mut self, alloc: Global, name: &str, value: Value) -> Result<(), AllocError> {
         serde_json::put(&mut self.members, alloc, name, value)
     }
 
     /// An object within.
-    fn put_reply(&mut self, alloc: Global, name: &str, reply: Reply) -> Result<(), AllocError> {
+    pub fn put_reply(&mut self, alloc: Global, name: &str, reply: Reply) -> Result<(), AllocError> {
         let Reply { members } = reply;
         self.put(alloc, name, Value::Object(members))
     }
@@ -59,7 +59,7 @@ impl Reply {
         self.put(alloc, name, Value::String(word))
     }
 
-    fn put_text(&mut self, alloc: Global, name: &str, text: &Units) -> Result<(), NoMemory> {
+    pub fn put_text(&mut self, alloc: Global, name: &str, text: &Units) -> Result<(), NoMemory> {
         let text = text.to_text_lossy(alloc)?;
         Ok(self.put(alloc, name, Value::String(text))?)
     }
@@ -70,7 +70,7 @@ impl Reply {
     }
 
     /// A change, or a document as one of the empty text.
-    fn put_wire(&mut self, alloc: Global, name: &str, wire: &Wire) -> Result<(), NoMemory> {
+    pub fn put_wire(&mut self, alloc: Global, name: &str, wire: &Wire) -> Result<(), NoMemory> {
         self.put_text(alloc, name, &wire.text)?;
         self.put_pool(alloc, &wire.pool)
     }
@@ -91,16 +91,34 @@ impl Reply {
         self.put_text(alloc, "text", &text)
     }
 
-    fn put_doc(&mut self, alloc: Global, doc: &Doc) -> Result<(), NoMemory> {
+    pub fn put_doc(&mut self, alloc: Global, doc: &Doc) -> Result<(), NoMemory> {
         self.put_attribs(alloc, doc)?;
         self.put_doc_text(alloc, doc)
     }
 
+    fn put_send(&mut self, alloc: Global, msg: &ClientMsg) -> Result<(), NoMemory> {
+        let text = write_client(alloc, msg)?;
+        Ok(self.put(alloc, "send", Value::String(text))?)
+    }
+
     /// A message is to be sent.
     pub fn sends(alloc: Global, msg: &ClientMsg) -> Result<Reply, NoMemory> {
-        let text = write_client(alloc, msg)?;
         let mut reply = Reply::new(alloc);
-        reply.put(alloc, "send", Value::String(text))?;
+        reply.put_send(alloc, msg)?;
+        Ok(reply)
+    }
+
+    /// It is to be sent, and all that there is to show is shown.
+    pub fn resumes(alloc: Global, msg: &ClientMsg, pad: &Entered) -> Result<Reply, NoMemory> {
+        let mut reply = Reply::shows(alloc, pad)?;
+        reply.put_send(alloc, msg)?;
+        Ok(reply)
+    }
+
+    /// The document of a revision.
+    pub fn past(alloc: Global, doc: &Doc) -> Result<Reply, NoMemory> {
+        let mut reply = Reply::new(alloc);
+        reply.put_doc(alloc, doc)?;
         Ok(reply)
     }
 
@@ -125,10 +143,17 @@ impl Reply {
         Ok(reply)
     }
 
+    /// The pad that was entered is gone, and another has its name.
+    pub fn renewed(alloc: Global) -> Result<Reply, AllocError> {
+        let mut reply = Reply::new(alloc);
+        reply.put_word(alloc, "closed", "renewed")?;
+        Ok(reply)
+    }
+
     /// All that there is to show.
     pub fn shows(alloc: Global, pad: &Entered) -> Result<Reply, NoMemory> {
         let mut reply = Reply::new(alloc);
-        reply.put_doc(alloc, pad.client.view())?;
+        reply.put_doc(alloc, pad.view())?;
         reply.put_text(alloc, "author", &pad.author)?;
         reply.put(alloc, "readOnly", Value::Bool(pad.read_only))?;
         Ok(reply)
@@ -143,6 +168,8 @@ impl Reply {
 
     /// What an editor inside of a pad is.
     fn put_inside(&mut self, alloc: Global, state: &State) -> Result<(), AllocError> {
+        self.put(alloc, "canRedo", Value::Bool(state.can_redo))?;
+        self.put(alloc, "canUndo", Value::Bool(state.can_undo))?;
         self.put(alloc, "rev", Value::from(state.rev))?;
         self.put(alloc, "unsent", Value::Bool(state.unsent))?;
         self.put(alloc, "waiting", Value::Bool(state.waiting))

@@ -1,5 +1,5 @@
 use Rattle.std.proofs.Common.{false, sym, ap, ◌∙◌}
-use Rattle.ep_history.specs.Kept.{KeptClient}
+use Rattle.ep_undo.specs.Undo.{UndoState}
 use Rattle.ep_editor.specs.Comes.{said}
 use Rattle.ep_editor.proofs.Resuming.{comes-err, resumed-ok}
 use Rattle.ep_editor.proofs.entered.Entered.reconnect.Goals as goal
@@ -9,7 +9,7 @@ returns-in-Ok-clause-replies c =
     let a = c.args in
     let q = c.hear_if.new.self in
     resumed-ok a.back a.news a.self.now q c.in-Ok.said c.requires.off c.requires.due c.in-Ok.ensures.replies
-    ∙ ap (λ (k : KeptClient). (said c.in-Ok.said, record q { client = k; returning = false })) (sym c.resume.ensures)
+    ∙ ap (λ (s : UndoState). (said c.in-Ok.said, record q { client = s; returning = false })) (sym c.resume.ensures)
 
 pub returns-in-Err-clause-replies : goal.returns-in-Err-clause-replies
 returns-in-Err-clause-replies c =
