@@ -480,12 +480,12 @@ function padOf({ pathname, search }) {
   }
 }
 
-/** Where the server is: beside the page, or where ?server= says. */
-function serverOf({ href, search }) {
+/** Where the server is: beside the page, or where ?server= says. It is told the pad too, by which a proxy may choose a server. */
+function serverOf({ href, search }, pad) {
   const told = new URLSearchParams(search).get('server');
-  if (told) return told;
-  const url = new URL('../pads/', href);
-  url.protocol = url.protocol === 'https:' ? 'wss:' : 'ws:';
+  const url = new URL(told || '../pads/', href);
+  if (!told) url.protocol = url.protocol === 'https:' ? 'wss:' : 'ws:';
+  url.searchParams.set('pad', pad);
   return url.href;
 }
 
@@ -512,7 +512,7 @@ async function begin() {
     document.documentElement.dataset.lost = 'true';
     lost();
   };
-  page.link = new Link(serverOf(location), { opened, message: came, lost: lostOnce });
+  page.link = new Link(serverOf(location, page.pad), { opened, message: came, lost: lostOnce });
   listen();
   await takeKept();
   showState();
