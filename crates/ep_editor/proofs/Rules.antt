@@ -5,7 +5,9 @@ use Rattle.ep_units.specs.Text.{Text, is_well_formed}
 use Rattle.ep_units.specs.declared.session.Session.{Session}
 use Rattle.ep_attr.specs.AttrMap.{AttrMap, after, none}
 use Rattle.ep_cs.specs.Doc.{Doc}
-use Rattle.ep_cs.specs.Edit.{Edit, identity}
+use Rattle.ep_cs.specs.Edit.{Edit, identity, apply, compose}
+use Rattle.ep_cs.proofs.Composed.{apply-compose}
+use Rattle.ep_sign.specs.Signing.{inserts_another, signing}
 use Rattle.ep_cs.specs.EditFits.{fits}
 use Rattle.ep_cs.specs.Fits.{is_identity}
 use Rattle.ep_history.specs.History.{is_session}
@@ -29,7 +31,7 @@ use Rattle.ep_hearing.specs.declared.meaning.Meaning.TheVariants as means
 use Rattle.ep_hearing.specs.declared.meaning.News.{News}
 use Rattle.ep_wire_words.specs.declared.server.ServerMsg.{ServerMsg}
 use Rattle.ep_wire_words.specs.declared.server.ServerMsg.TheVariants as msg
-use Rattle.ep_undo.specs.Undo.{UndoState, redone_by, top, undo_edited, undo_hears, undo_other, undone_by}
+use Rattle.ep_undo.specs.Undo.{UndoState, redone_by, top, undo_edited, undo_hears, undo_other, undone_by, edited_beside}
 use Rattle.ep_undo.specs.Undo as undo
 use Rattle.ep_hearing.specs.declared.meaning.Slid.{Slid}
 use Rattle.ep_editor.specs.Inside.{comes_back, cut_off, edited, formatted, hears, hears_back, hears_more, hears_now, hears_own, hears_unless, is_busy_inside, is_due, is_long, is_renewed, kept_of, loses, makes, own_map, owns_unless, put_by, redoes, remade, resume_of, resumed_with, returns, submits, submitted, told_reply, undoes, with_client}
@@ -38,7 +40,7 @@ use Rattle.ep_editor.specs.Past.{answers, hears_slid, slides, slides_by, slid_by
 use Rattle.ep_editor.specs.Replies.{Reply, Sends, Paints, Closes, Renewed, Nothing, ready, refuses}
 use Rattle.ep_editor.specs.Requests.{Request, answer}
 use Rattle.ep_editor.specs.Requests as request
-use Rattle.ep_editor.specs.Rules.{Step, IfInside, IsFitting, IsOfConnection, IsOfPad, IsSameWork, KeepsRules, MayTakeAll, all_sent, all_taken, edits_sent, message_of, shown_after, shown_by}
+use Rattle.ep_editor.specs.Rules.{IsOfChange, IsRemaking, Step, IfInside, IsFitting, IsOfConnection, IsOfPad, IsSameWork, KeepsRules, MayTakeAll, all_sent, all_taken, edits_sent, message_of, shown_after, shown_by}
 use Rattle.ep_editor.specs.Rules.{Edits, Hears, Submits, Loses, Resumes}
 use Rattle.ep_editor.specs.declared.bad.EditorBad.{EditorBad}
 use Rattle.ep_editor.specs.declared.bad.EditorBad.TheVariants as bad
@@ -49,6 +51,7 @@ use Rattle.ep_editor.specs.declared.entered.Entered.{Entered}
 use Rattle.ep_editor.specs.declared.slider.Asked.{Asked}
 use Rattle.ep_editor.specs.declared.slider.Place.{Place}
 use Rattle.ep_editor.specs.declared.slider.Step.{Step as SliderStep}
+use Rattle.ep_editor.proofs.Signing.{change_fits, signing_fits}
 use Rattle.ep_editor.proofs.Fitting.{paint_fits, put_fits}
 
 -- ---- the client within, of one with stacks
@@ -193,13 +196,29 @@ right_slid : (s : Slid) (p : Entered) → Right p (hears_slid s p)
 right_slid s p = right_slid_for s p.slider.asked p
 
 -- what is taken back, and made again
-right_undone : (us : List Edit) (p : Entered) → IfSome (top us) (λ e. fits e (kept_of p).view ≡ true) → Right p (remade (top us), with_client p (undone_by p.client us))
-right_undone [] p f = right_same p _ refl refl
-right_undone (u ∷ us) p f = record { steps = Edits u ∷ []; may = (f, tt); client = refl; sent = refl }
+right_signed : (e : Edit) (s : UndoState) (p : Entered) → IsOfChange (kept_of p).view e → s.client ≡ kept_edited e (kept_of p) → Right p (remade (Some e) s p)
+right_signed e s p (c, is, n, f) k = go (inserts_another p.author e)
+  where
+    view : Doc
+    view = (kept_of p).view
 
-right_redone : (us : List Edit) (p : Entered) → IfSome (top us) (λ e. fits e (kept_of p).view ≡ true) → Right p (remade (top us), with_client p (redone_by p.client us))
+    one : fits e view ≡ true
+    one = subst (λ d. fits d view ≡ true) is (change_fits c view n f)
+
+    two : fits (signing p.author e) (apply e view) ≡ true
+    two = subst (λ d. fits (signing p.author d) (apply d view) ≡ true) is (signing_fits p.author c view n f)
+
+    go : (t : Bool) → Right p (Paints (if t then compose e (signing p.author e) else e), with_client p (if t then edited_beside (signing p.author e) s else s))
+    go true = record { steps = Edits e ∷ (Edits (signing p.author e) ∷ []); may = (one, (two, tt)); client = ap (kept_edited (signing p.author e)) k; sent = refl }
+    go false = record { steps = Edits e ∷ []; may = (one, tt); client = k; sent = refl }
+
+right_undone : (us : List Edit) (p : Entered) → IfSome (top us) (IsOfChange (kept_of p).view) → Right p (remade (top us) (undone_by p.client us) p)
+right_undone [] p f = right_same p _ refl refl
+right_undone (u ∷ us) p f = right_signed u (undone_by p.client (u ∷ us)) p f refl
+
+right_redone : (us : List Edit) (p : Entered) → IfSome (top us) (IsOfChange (kept_of p).view) → Right p (remade (top us) (redone_by p.client us) p)
 right_redone [] p f = right_same p _ refl refl
-right_redone (u ∷ us) p f = record { steps = Edits u ∷ []; may = (f, tt); client = refl; sent = refl }
+right_redone (u ∷ us) p f = right_signed u (redone_by p.client (u ∷ us)) p f refl
 
 right_heard : (m : Meaning) (p : Entered) → Right p (hears m p)
 right_heard (means.Own h) p = right_if p (kept_of p).connected _ _ (λ c. right_owns h p (hear_fault h (kept_of p)) c refl) (λ _. right_refused p bad.Turn)
@@ -375,13 +394,22 @@ tells_slid : (s : Slid) (o : Option Asked) (p : Entered) → Tells p (slid_for s
 tells_slid s None p = refl
 tells_slid s (Some q) p = holds_if (Tells p) (answers s q) _ _ (tells_slid_by (walked q.to (steps_of s) p.slider.place) (steps_of s) q.to p) refl
 
-tells_undone : (us : List Edit) (p : Entered) → Tells p (remade (top us), with_client p (undone_by p.client us))
-tells_undone [] p = refl
-tells_undone (u ∷ us) p = refl
+tells_signed : (e : Edit) (s : UndoState) (p : Entered) → IsOfChange (kept_of p).view e → s.client ≡ kept_edited e (kept_of p) → Tells p (remade (Some e) s p)
+tells_signed e s p (c, is, n, f) k = go (inserts_another p.author e)
+  where
+    go : (t : Bool) → Tells p (Paints (if t then compose e (signing p.author e) else e), with_client p (if t then edited_beside (signing p.author e) s else s))
+    go true =
+        ap (λ (q : KeptClient). apply (signing p.author e) q.view) k
+        ∙ sym (apply-compose e (signing p.author e) (kept_of p).view (f.length ∙ ap (λ (d : Edit). length d.places) is))
+    go false = ap (λ (q : KeptClient). q.view) k
 
-tells_redone : (us : List Edit) (p : Entered) → Tells p (remade (top us), with_client p (redone_by p.client us))
-tells_redone [] p = refl
-tells_redone (u ∷ us) p = refl
+tells_undone : (us : List Edit) (p : Entered) → IfSome (top us) (IsOfChange (kept_of p).view) → Tells p (remade (top us) (undone_by p.client us) p)
+tells_undone [] p f = refl
+tells_undone (u ∷ us) p f = tells_signed u (undone_by p.client (u ∷ us)) p f refl
+
+tells_redone : (us : List Edit) (p : Entered) → IfSome (top us) (IsOfChange (kept_of p).view) → Tells p (remade (top us) (redone_by p.client us) p)
+tells_redone [] p f = refl
+tells_redone (u ∷ us) p f = tells_signed u (redone_by p.client (u ∷ us)) p f refl
 
 tells_message : (m : ServerMsg) (p : Entered) → Tells p (hears (meant (kept_of p).rev m) p)
 tells_message (msg.Vars pad author read_only session birth rev doc time) p = refl
@@ -399,20 +427,20 @@ shows_entering : (wanted : Wanted) (p : Entered) (t : Bool)
 shows_entering wanted p true = refl
 shows_entering wanted p false = tt
 
-pub shows-each : (r : Request) (p : Entered) → IsOfPad r → IfInside (answer r (Inside p)).1 (λ q. (kept_of q).view ≡ shown_after p.author r (answer r (Inside p)).0 (kept_of p).view)
-shows-each (request.Enters wanted) p o = shows_entering wanted p (is_busy_inside p)
-shows-each (request.EntersAgain wanted k) p o = absurd o
-shows-each (request.Hears (Ok m)) p o = tells_message m p
-shows-each (request.Hears (Err why)) p o = refl
-shows-each (request.Edits at drop put with_) p o = shown_edited at drop put with_ p
-shows-each (request.Formats at count attrs) p o = tells_painted at count attrs p
-shows-each request.Undoes p o = tells_undone p.client.undos p
-shows-each request.Redoes p o = tells_redone p.client.redos p
-shows-each request.Submits p o = tells_submits p (kept_submitted (kept_of p)) (submitted-view (kept_of p))
-shows-each request.Loses p o = holds_if (Tells p) (is_busy_inside p) _ _ refl refl
-shows-each request.Returns p o = holds_if (Tells p) (is_busy_inside p) _ _ refl refl
-shows-each request.Keeps p o = refl
-shows-each (request.Slides to) p o = tells_slides to p
+pub shows-each : (r : Request) (p : Entered) → IsOfPad r → IsRemaking r p → IfInside (answer r (Inside p)).1 (λ q. (kept_of q).view ≡ shown_after p.author r (answer r (Inside p)).0 (kept_of p).view)
+shows-each (request.Enters wanted) p o f = shows_entering wanted p (is_busy_inside p)
+shows-each (request.EntersAgain wanted k) p o f = absurd o
+shows-each (request.Hears (Ok m)) p o f = tells_message m p
+shows-each (request.Hears (Err why)) p o f = refl
+shows-each (request.Edits at drop put with_) p o f = shown_edited at drop put with_ p
+shows-each (request.Formats at count attrs) p o f = tells_painted at count attrs p
+shows-each request.Undoes p o f = tells_undone p.client.undos p f
+shows-each request.Redoes p o f = tells_redone p.client.redos p f
+shows-each request.Submits p o f = tells_submits p (kept_submitted (kept_of p)) (submitted-view (kept_of p))
+shows-each request.Loses p o f = holds_if (Tells p) (is_busy_inside p) _ _ refl refl
+shows-each request.Returns p o f = holds_if (Tells p) (is_busy_inside p) _ _ refl refl
+shows-each request.Keeps p o f = refl
+shows-each (request.Slides to) p o f = tells_slides to p
 
 -- ---- what isn't lost
 

@@ -1,5 +1,5 @@
 -- What a call's answer is of a reply.
-use Rattle.std.specs.Prelude.{◌≡◌, ◌⊎◌, ℕ, List, Option, Some, None, option_map, IfSome, Result, Ok, Err}
+use Rattle.std.specs.Prelude.{◌≡◌, ◌⊎◌, ℕ, List, Option, Some, None, IfSome, Result, Ok, Err}
 use Rattle.ep_cs.specs.Change.{Change}
 use Rattle.ep_cs.specs.Doc.{Doc}
 use Rattle.ep_cs.specs.Fits.{Fits}
@@ -9,7 +9,7 @@ use Rattle.ep_wire_words.specs.declared.client.ClientMsg.{ClientMsg}
 use Rattle.ep_wire_words.specs.declared.server.ServerMsg.{ServerMsg}
 use Rattle.ep_client.specs.declared.bad.ClientBad.{ClientBad}
 use Rattle.ep_client.specs.declared.bad.ClientBad.TheVariants as client_bad
-use Rattle.ep_editor.specs.Inside.{kept_of, remade}
+use Rattle.ep_editor.specs.Inside.{kept_of}
 use Rattle.ep_editor.specs.Kept.{work_in}
 use Rattle.ep_editor.specs.Replies.{Reply, Sends, Shows, Resumes, Paints, Changes, Closes, Renewed, Past, Keeps, Nothing, Refuses}
 use Rattle.ep_editor.specs.Requests.{Hears, answer}
@@ -47,7 +47,8 @@ abbrev pub resumes : ClientMsg → Reply
 resumes m = Resumes m
 
 abbrev pub makes_again : Option Change → Reply
-makes_again o = remade (option_map (λ (c : Change). c.edit) o)
+makes_again None = Nothing
+makes_again (Some c) = Paints c.edit
 
 abbrev pub keeps_it : Kept → Reply
 keeps_it k = Keeps (work_in k)

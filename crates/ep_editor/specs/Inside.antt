@@ -3,7 +3,7 @@ use Rattle.std.specs.Prelude.{ℕ, ◌+◌, ◌-◌, ◌==◌, ◌&&◌, ◌||�
 use Rattle.ep_units.specs.Text.{Text}
 use Rattle.ep_attr.specs.AttrMap.{AttrMap, after, join, none, of_pairs}
 use Rattle.ep_cs.specs.Doc.{Doc}
-use Rattle.ep_cs.specs.Edit.{Edit}
+use Rattle.ep_cs.specs.Edit.{Edit, compose}
 use Rattle.ep_cs.specs.Fits.{is_identity}
 use Rattle.ep_cs.specs.Runs.{cells}
 use Rattle.ep_cs.specs.Splice.{splice}
@@ -17,7 +17,8 @@ use Rattle.ep_client.specs.declared.bad.ClientBad.{ClientBad}
 use Rattle.ep_client.specs.declared.heard.Heard.{Heard}
 use Rattle.ep_client.specs.declared.heard.Told.{Told}
 use Rattle.ep_client.specs.declared.heard.Told.TheVariants as told
-use Rattle.ep_undo.specs.Undo.{UndoState, redone, top, undo_edited, undo_hears, undo_lost, undo_resumes, undone}
+use Rattle.ep_sign.specs.Signing.{inserts_another, signing}
+use Rattle.ep_undo.specs.Undo.{UndoState, redone, top, undo_edited, undo_hears, undo_lost, undo_resumes, undone, edited_beside}
 use Rattle.ep_undo.specs.Undo as undo
 use Rattle.ep_hearing.specs.Meaning.{heard_of}
 use Rattle.ep_hearing.specs.declared.meaning.Back.{Back}
@@ -95,16 +96,24 @@ formatted at count attrs p = if p.read_only then refuses bad.ReadOnly p else pai
 
 -- ---- its user takes back what it did, and makes it again
 
--- the edit that is made, if there is one
-abbrev pub remade : Option Edit → Reply
-remade None = Nothing
-remade (Some e) = Paints e
+-- an edit, and what gives the author's name to what it puts under another's, as one edit of the view
+abbrev pub signed_edit : Text → Edit → Edit
+signed_edit author e = if inserts_another author e then compose e (signing author e) else e
+
+-- the client after the second of these
+abbrev pub with_signed : Text → Edit → UndoState → UndoState
+with_signed author e s = if inserts_another author e then edited_beside (signing author e) s else s
+
+-- the edit that was made, if there was one, and the author's name on what it puts
+abbrev pub remade : Option Edit → UndoState → Entered → Reply × Entered
+remade None s p = (Nothing, with_client p s)
+remade (Some e) s p = (Paints (signed_edit p.author e), with_client p (with_signed p.author e s))
 
 abbrev pub undoes : Entered → Reply × Entered
-undoes p = (remade (top p.client.undos), with_client p (undone p.client))
+undoes p = remade (top p.client.undos) (undone p.client) p
 
 abbrev pub redoes : Entered → Reply × Entered
-redoes p = (remade (top p.client.redos), with_client p (redone p.client))
+redoes p = remade (top p.client.redos) (redone p.client) p
 
 -- ---- it sends
 

@@ -5,6 +5,9 @@ use Rattle.ep_units.specs.declared.session.Session.{Session}
 use Rattle.ep_cs.specs.Doc.{Doc}
 use Rattle.ep_cs.specs.Edit.{Edit, apply}
 use Rattle.ep_cs.specs.EditFits.{fits}
+use Rattle.ep_cs.specs.Fits.{Fits}
+use Rattle.ep_cs.specs.NormalRuns.{IsNormal}
+use Rattle.ep_cs.specs.Change.{Change}
 use Rattle.ep_history.specs.Kept.{KeptClient, kept_edited, kept_lost, kept_resumes, kept_submitted}
 use Rattle.ep_history.specs.Lists.{or_else}
 use Rattle.ep_client.specs.Hearing.{kept_hears}
@@ -86,12 +89,20 @@ abbrev pub IsOfPad : Request → Type 0
 IsOfPad (request.EntersAgain wanted k) = ⊥
 IsOfPad r = Unit {0}
 
--- the text that is put is one; what is taken back, or made again, fits the view
+-- an edit is that of a change which fits a document
+abbrev pub IsOfChange : Doc → Edit → Type 0
+IsOfChange doc e = (c : Change) × (c.edit ≡ e) × IsNormal c × Fits c doc
+
+-- what is taken back, or made again, fits the view
+abbrev pub IsRemaking : Request → Entered → Type 0
+IsRemaking request.Undoes p = IfSome (top p.client.undos) (IsOfChange (kept_of p).view)
+IsRemaking request.Redoes p = IfSome (top p.client.redos) (IsOfChange (kept_of p).view)
+IsRemaking r p = Unit {0}
+
+-- and the text that is put is one
 abbrev pub IsFitting : Request → Entered → Type 0
 IsFitting (request.Edits at drop put with_) p = is_well_formed put ≡ true
-IsFitting request.Undoes p = IfSome (top p.client.undos) (λ e. fits e (kept_of p).view ≡ true)
-IsFitting request.Redoes p = IfSome (top p.client.redos) (λ e. fits e (kept_of p).view ≡ true)
-IsFitting r p = Unit {0}
+IsFitting r p = IsRemaking r p
 
 -- the client takes only steps of the rules, and what is sent of edits is what these submit
 pub record KeepsRules (r : Request) (p : Entered) : Type 0 where

@@ -6,11 +6,13 @@ ghost use Rattle.ep_attr.specs.AttrMap.{of_pairs};
 ghost use Rattle.ep_invert.specs.Paint.{paint};
 ghost use Rattle.ep_invert.specs.Refusal.{refusal, splice_bad};
 ghost use Rattle.ep_wire_words.specs.declared.client.ClientMsg.TheVariants as msgs;
+ghost use Rattle.ep_cs.specs.Doc.{Doc};
+ghost use Rattle.ep_cs.specs.Edit.{apply};
 ghost use Rattle.ep_cs.specs.Fits.{Fits};
 ghost use Rattle.ep_undo.specs.Undo.{undo_edited};
 ghost use Rattle.ep_editor.specs.Comes.{Comes, FitsThat, changed, makes_again, nothing, said, sends, sends_if};
 ghost use Rattle.ep_editor.specs.Replies.{ready};
-ghost use Rattle.ep_editor.specs.Inside.{closes, cut_off, edited, formatted, hears, hears_back, hears_if, hears_more, hears_news, hears_now, hears_own, inside_state, is_busy_inside, is_due, is_head, is_long, kept_of, loses, own_map, put_edit, putting, redoes, renewed, resumed, resumed_with, resume_of, returns, submitted, undoes};
+ghost use Rattle.ep_editor.specs.Inside.{closes, cut_off, edited, formatted, hears, hears_back, hears_if, hears_more, hears_news, hears_now, hears_own, inside_state, is_busy_inside, is_due, is_head, is_long, kept_of, loses, own_map, put_edit, putting, redoes, renewed, resumed, resumed_with, resume_of, returns, submitted, undoes, signed_edit, with_signed};
 
 use crate::bad::EditorBad;
 use crate::editor::{Said, State, Wanted};
@@ -19,9 +21,11 @@ use crate::slider::Slider;
 use ep_apply::Doc;
 use ep_attr::{Attr, AttrMap};
 use ep_client::{Heard, Submission, Told};
+use ep_compose::compose;
 use ep_cs::{Change, MOST_UNITS};
 use ep_hearing::{Back, Meaning, News};
 use ep_invert::{SpliceBad, paint, splice};
+use ep_sign::signing;
 use ep_undo::UndoClient;
 use ep_units::{NoMemory, Units};
 use ep_wire_words::{ClientMsg, Resume, Word};
@@ -194,14 +198,26 @@ impl Entered {
         ensures replies { Comes makes_again result self.old self.new (undoes self.old) }
         ensures fits { IfOk result (λ o. IfSome o (λ c. Fits c (kept_of self.old).view)) }
     {
-        Ok(self.client.undo(alloc)?)
+        let mut client = self.client.copy(alloc)?;
+        let Some(made) = client.undo(alloc)? else {
+            return Ok(None);
+        };
+        let made = signed(alloc, &mut client, &self.author, made)?;
+        self.client = client;
+        Ok(Some(made))
     }
 
     pub(crate) fn redo(&mut self, alloc: Global) -> Result<Option<Change>, EditorBad>
         ensures replies { Comes makes_again result self.old self.new (redoes self.old) }
         ensures fits { IfOk result (λ o. IfSome o (λ c. Fits c (kept_of self.old).view)) }
     {
-        Ok(self.client.redo(alloc)?)
+        let mut client = self.client.copy(alloc)?;
+        let Some(made) = client.redo(alloc)? else {
+            return Ok(None);
+        };
+        let made = signed(alloc, &mut client, &self.author, made)?;
+        self.client = client;
+        Ok(Some(made))
     }
 
     pub(crate) fn submit(&mut self, alloc: Global) -> Result<Option<ClientMsg>, EditorBad>
@@ -470,6 +486,29 @@ fn make_edit(alloc: Global, client: &mut UndoClient, change: &Change) -> Result<
 {
     match client.edit(alloc, change) {
         Ok(()) => Ok(()),
+        Err(_) => Err(NoMemory),
+    }
+}
+
+/// What a client made puts under the author's name what it put under another's, which the server would refuse: the change
+/// that both are. By the rules the client refuses no such edit; if it did, that would be answered as want of memory.
+fn signed(
+    alloc: Global,
+    client: &mut UndoClient,
+    author: &Units,
+    made: Change,
+) -> Result<Change, NoMemory>
+    requires { (doc : Doc) × Fits made doc × (client.old.client.view ≡ apply made.edit doc) }
+    ensures change { IfOk result (λ c. c.edit ≡ signed_edit author.now made.edit) }
+    ensures client { OnOk result (client.new ≡ with_signed author.now made.edit client.old) }
+    ensures fits { IfOk result (λ c. (doc : Doc) → Fits made doc → client.old.client.view ≡ apply made.edit doc → Fits c doc) }
+{
+    let Some(sign) = signing(alloc, &made, author)? else {
+        return Ok(made);
+    };
+    let both = compose(alloc, &made, &sign)?;
+    match client.edit_beside(alloc, &sign) {
+        Ok(()) => Ok(both),
         Err(_) => Err(NoMemory),
     }
 }

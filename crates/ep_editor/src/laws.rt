@@ -9,7 +9,7 @@ ghost use Rattle.ep_editor.specs.Past.{slides, steps_of, AreStepsOf, IsSliderOf,
 ghost use Rattle.ep_editor.specs.Replies.{Past};
 ghost use Rattle.ep_editor.specs.Requests.{Request, answer, is_busy};
 ghost use Rattle.ep_editor.specs.Requests.Request.{EntersAgain};
-ghost use Rattle.ep_editor.specs.Rules.{IfInside, IsFitting, IsOfConnection, IsOfPad, IsSameWork, KeepsRules, shown_after};
+ghost use Rattle.ep_editor.specs.Rules.{IfInside, IsFitting, IsOfConnection, IsOfPad, IsRemaking, IsSameWork, KeepsRules, shown_after};
 ghost use Rattle.ep_editor.specs.declared.editor.Editor.{Editor as AnyEditor};
 ghost use Rattle.ep_editor.specs.declared.editor.Editor.TheVariants.{Inside};
 ghost use Rattle.ep_editor.specs.declared.editor.Wanted.{Wanted as AnyWanted};
@@ -26,7 +26,7 @@ pub fn keeps_the_client_rules()
 
 /// What was shown, changed by each edit that was asked for and each change that was answered, is the view.
 pub fn answers_each_change_of_the_view()
-    ensures { (r : Request) (p : AnyEntered) → IsOfPad r → IfInside (answer r (Inside p)).1 (λ q. (kept_of q).view ≡ shown_after p.author r (answer r (Inside p)).0 (kept_of p).view) }
+    ensures { (r : Request) (p : AnyEntered) → IsOfPad r → IsRemaking r p → IfInside (answer r (Inside p)).1 (λ q. (kept_of q).view ≡ shown_after p.author r (answer r (Inside p)).0 (kept_of p).view) }
 {}
 
 /// A lost connection, one that is there again, a keep and a look at the past lose nothing of what was typed.
