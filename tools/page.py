@@ -216,6 +216,23 @@ class Test:
         self.agree()
         self.shoot("undo")
 
+    def undo_of_a_deletion(self):
+        """One deletes another's text and takes that back: it stands there again, under the name of who took it back."""
+        self.fresh()
+        self.a.type("by one")
+        _, runs = self.agree("by one\n")
+        whose = dict(runs[0][3])["author"]
+        self.b.select(0, 6)
+        self.b.keys(Keys.DELETE)
+        self.agree("\n")
+        self.b.keys(Keys.CONTROL + "z")
+        _, runs = self.agree("by one\n")
+        if dict(runs[0][3]).get("author") in (None, whose):
+            raise Wrong(f"put back: {runs}")
+        self.b.keys(Keys.CONTROL + Keys.SHIFT + "z")
+        self.agree("\n")
+        self.shoot("undo_of_a_deletion")
+
     def a_cut(self):
         """A connection is cut while both type, and comes back by itself."""
         self.fresh("start")
@@ -596,8 +613,8 @@ def large_change(text):
     return f"Z:{base36(len(text) + 1)}>0{''.join(out)}$"
 
 
-POINTS = ["one_place", "both_ends", "an_emoji", "a_line_break", "an_input_method", "a_paste", "bold_over_another", "undo", "a_cut", "a_kill",
-          "no_server", "a_reader", "a_denied_pad", "userdup", "a_deletion", "slider", "a_reload", "own_tokens", "no_markup", "policy",
+POINTS = ["one_place", "both_ends", "an_emoji", "a_line_break", "an_input_method", "a_paste", "bold_over_another", "undo", "undo_of_a_deletion", "a_cut",
+          "a_kill", "no_server", "a_reader", "a_denied_pad", "userdup", "a_deletion", "slider", "a_reload", "own_tokens", "no_markup", "policy",
           "right_to_left", "keyboard", "start_page", "large",
           "firefox"]  # and "figures", which is only measured
 
