@@ -15,7 +15,7 @@ use Rattle.ep_pad.specs.Opening.{IsRefused, found as left_on}
 use Rattle.ep_pad.specs.Standing.{Stands, opening}
 use Rattle.ep_pad_file.specs.Standing.{size}
 use Rattle.ep_world.specs.declared.world.World.{World}
-use Rattle.ep_world.specs.Actors.{found}
+use Rattle.ep_members.specs.Actors.{found}
 use Rattle.ep_world.specs.Failing.{failed_opening}
 use Rattle.ep_world.specs.Journal.{begun, full_by}
 use Rattle.ep_world.specs.Standing.{IsUnbegun, StandsFor}

@@ -33,7 +33,7 @@ use Rattle.ep_world.specs.declared.bad.WorldBad.{WorldBad}
 use Rattle.ep_csread.specs.declared.bad.ReadBad.{ReadBad}
 use Rattle.ep_step.specs.Telling.{told_by as committed_told}
 use Rattle.ep_step.specs.declared.telling.Committed.{Committed as Told}
-use Rattle.ep_world.specs.declared.message.Sent.{Sent}
+use Rattle.ep_members.specs.declared.message.Sent.{Sent}
 use Rattle.ep_world.specs.Conns.{change_of, sent_of, why_unread}
 use Rattle.ep_world.specs.declared.taking.Took.{Took}
 use Rattle.ep_world.specs.declared.taking.Took.TheVariants as took

@@ -23,7 +23,7 @@ use Rattle.ep_event.specs.declared.shown.Verb.{Verb}
 use Rattle.ep_event.specs.declared.shown.Verb.TheVariants as verb
 use Rattle.ep_world.specs.declared.bad.WorldBad.{WorldBad}
 use Rattle.ep_world.specs.declared.world.World.{World}
-use Rattle.ep_world.specs.Actors.{found}
+use Rattle.ep_members.specs.Actors.{found}
 use Rattle.ep_world.specs.Events.{event_at, happened, has_text, is_known, kept_happened}
 use Rattle.ep_world.specs.Failing.{shown_or_failed}
 use Rattle.ep_world.specs.Shows.{pad_refuses, shows, shows_created, shows_deleted, shows_set}

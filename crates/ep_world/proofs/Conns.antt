@@ -5,10 +5,11 @@ use Rattle.std.proofs.lemmas.List.{map-append}
 use Rattle.ep_history.specs.declared.rev.Rev.{Rev}
 use Rattle.ep_schedule.specs.World.{Conn, Down as ADown, Message, Word, closing, sending, spending, with_down, with_up}
 use Rattle.ep_schedule.specs.World.Down.{Revision, Spent, Closing}
-use Rattle.ep_world.specs.declared.message.Sent.{Sent}
-use Rattle.ep_world.specs.declared.message.Down.{Down}
-use Rattle.ep_world.specs.declared.message.Down.TheVariants as down
-use Rattle.ep_world.specs.Conns.{KeptConn, TakesDown, TakesUp, conn_of, down_of, kept_closing, kept_down, kept_sends, kept_tells, kept_tells_spent, kept_up, sent_of, word_of}
+use Rattle.ep_members.specs.declared.message.Sent.{Sent}
+use Rattle.ep_members.specs.declared.message.Down.{Down}
+use Rattle.ep_members.specs.declared.message.Down.TheVariants as down
+use Rattle.ep_members.specs.Conns.{KeptConn, TakesDown, TakesUp, kept_closing, kept_down, kept_sends, kept_tells, kept_tells_spent, kept_up}
+use Rattle.ep_world.specs.Conns.{conn_of, down_of, sent_of, word_of}
 
 pub conn-closing : (word : Word) (c : Conn) → conn_of (closing word c) ≡ kept_closing (word_of word) (conn_of c)
 conn-closing word c = go c.closed refl

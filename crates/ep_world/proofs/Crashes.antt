@@ -57,22 +57,25 @@ use Rattle.ep_event.specs.declared.event.StopAt.{StopAt}
 use Rattle.ep_event.specs.declared.shown.Shown.{Shown}
 use Rattle.ep_event.specs.declared.shown.Shown.TheVariants as shown
 use Rattle.ep_event.specs.declared.shown.Verb.TheVariants as verb
-use Rattle.ep_world.specs.declared.actors.Actor.{Actor}
-use Rattle.ep_world.specs.declared.actors.Actor.TheVariants as actor
-use Rattle.ep_world.specs.declared.actors.Slot.{Slot}
+use Rattle.ep_members.specs.declared.actors.Actor.{Actor}
+use Rattle.ep_members.specs.declared.actors.Actor.TheVariants as actor
+use Rattle.ep_members.specs.declared.actors.Slot.{Slot}
 use Rattle.ep_world.specs.declared.bad.WorldBad.{WorldBad}
 use Rattle.ep_world.specs.declared.bad.WorldBad.TheVariants as world_bad
-use Rattle.ep_world.specs.declared.message.Sent.{Sent}
+use Rattle.ep_members.specs.declared.message.Sent.{Sent}
 use Rattle.ep_world.specs.declared.world.World.{World}
-use Rattle.ep_world.specs.Actors.{IsSame, IsWithout, PutsActor, actor_of, found, kept_cut_off, member_of}
+use Rattle.ep_world.specs.Actors.{IsSame, actor_of, member_of}
+use Rattle.ep_members.specs.Actors.{IsWithout, PutsActor, found, kept_cut_off}
 use Rattle.ep_world.specs.Events.{is_known, is_nobody, stopped_name}
-use Rattle.ep_world.specs.Conns.{KeptConn, conn_of, kept_cut, sent_of}
+use Rattle.ep_members.specs.Conns.{KeptConn, kept_cut}
+use Rattle.ep_world.specs.Conns.{conn_of, sent_of}
 use Rattle.ep_world.specs.Failing.{IsFailure}
 use Rattle.ep_world.specs.Journal.{Decides, behind, full_by, full_in, is_shut, journal_left, kept_record, keeps_record, no_room, record_if, record_in, record_taken, shows_full, unopened}
 use Rattle.ep_world.specs.Shows.{pad_refuses, shows_opening}
 use Rattle.ep_world.specs.Standing.{Comes, IsAnswered, IsAt, IsOpenAt, IsShutAt, StandsFor, answer_of, pad_after}
 use Rattle.ep_world.specs.Standing.IsPlayed.{IsEvent, HasNoRoom}
-use Rattle.ep_world.specs.Stopping.{BreaksOff, FindsFirst, Reopens, Starts, TakesFirst, TakesSent, broken_by, broken_off, journal_broken, shows_start, shows_start_if, taken_if, taken_of}
+use Rattle.ep_world.specs.Stopping.{BreaksOff, FindsFirst, Reopens, Starts, broken_by, broken_off, journal_broken, shows_start, shows_start_if, taken_if, taken_of}
+use Rattle.ep_members.specs.Actors.{TakesFirst, TakesSent}
 use Rattle.ep_world.proofs.Brought.{reason-of, reason-unread, sent-read, sent-unread, unless-answers, unless-refuses-answer}
 use Rattle.ep_world.proofs.Conns.{takes-message, takes-none}
 use Rattle.ep_world.proofs.Counting.{IsAsleep, sleeps-full}

@@ -29,10 +29,10 @@ use Rattle.ep_world.specs.Kepts.{Kepts}
 use Rattle.ep_schedule.specs.World.{Name, Message, WorldState}
 use Rattle.ep_event.specs.declared.event.Event.TheVariants as told
 use Rattle.ep_event.specs.declared.event.StopAt.{StopAt}
-use Rattle.ep_world.specs.declared.actors.Slot.{Slot}
+use Rattle.ep_members.specs.declared.actors.Slot.{Slot}
 use Rattle.ep_world.specs.declared.bad.WorldBad.{WorldBad}
 use Rattle.ep_world.specs.declared.bad.WorldBad.TheVariants as world_bad
-use Rattle.ep_world.specs.declared.message.Sent.{Sent}
+use Rattle.ep_members.specs.declared.message.Sent.{Sent}
 use Rattle.ep_world.specs.declared.taking.Took.{Took}
 use Rattle.ep_world.specs.declared.taking.Took.TheVariants as took
 use Rattle.ep_world.specs.declared.world.World.{World}

@@ -25,10 +25,11 @@ use Rattle.ep_pad_state.specs.declared.answers.Welcome.{Welcome}
 use Rattle.ep_event.specs.declared.event.Event.TheVariants as told
 use Rattle.ep_event.specs.declared.shown.Shown.TheVariants as shown
 use Rattle.ep_event.specs.declared.shown.Verb.TheVariants as verb
-use Rattle.ep_world.specs.declared.actors.Actor.TheVariants as actor
+use Rattle.ep_members.specs.declared.actors.Actor.TheVariants as actor
 use Rattle.ep_world.specs.declared.world.World.{World}
-use Rattle.ep_world.specs.Actors.{PutsActor, actor_of, is_a_client, is_a_guest, member_of}
-use Rattle.ep_world.specs.Conns.{kept_new}
+use Rattle.ep_members.specs.Actors.{PutsActor, is_a_client, is_a_guest}
+use Rattle.ep_world.specs.Actors.{actor_of, member_of}
+use Rattle.ep_members.specs.Conns.{kept_new}
 use Rattle.ep_world.specs.Entering.{started_member}
 use Rattle.ep_world.specs.Events.{is_client, is_guest}
 use Rattle.ep_world.specs.Failing.{shown_or_failed}

@@ -16,17 +16,17 @@ use Rattle.ep_event.specs.declared.event.Event.TheVariants as told
 use Rattle.ep_event.specs.declared.shown.Shown.{Shown}
 use Rattle.ep_event.specs.declared.shown.Shown.TheVariants as shown
 use Rattle.ep_event.specs.declared.shown.Verb.TheVariants as verb
-use Rattle.ep_world.specs.declared.member.Member.{Member}
-use Rattle.ep_world.specs.declared.message.Down.{Down}
+use Rattle.ep_members.specs.declared.member.Member.{Member}
+use Rattle.ep_members.specs.declared.message.Down.{Down}
 use Rattle.ep_world.specs.declared.world.World.{World}
 use Rattle.ep_world.specs.Actors.{member_of}
-use Rattle.ep_world.specs.Conns.{KeptConn, TakesDown, conn_of, down_of, kept_down}
+use Rattle.ep_members.specs.Conns.{KeptConn, TakesDown, kept_down}
+use Rattle.ep_world.specs.Conns.{conn_of, down_of}
 use Rattle.ep_world.specs.Events.{is_client, of_client}
-use Rattle.ep_world.specs.Members.{HearsDown, kept_member_lost}
+use Rattle.ep_members.specs.Members.{HearsDown, kept_hears_down, kept_member_lost, shows_hears}
 use Rattle.ep_world.specs.Shows.{shows, shows_hear, shows_heard, shows_lose}
 use Rattle.ep_world.specs.Standing.{Comes, IsPlayed, IsRun, StandsFor}
 use Rattle.ep_world.specs.Standing.IsPlayed.{IsEvent}
-use Rattle.ep_world.specs.Telling.{kept_hears_down, shows_hears}
 use Rattle.ep_world.proofs.Conns.{hears-none, takes-telling}
 use Rattle.ep_world.proofs.Sends.{stands-as}
 use Rattle.ep_world.proofs.Turns.{IsTurn, Turns, keeps, turns}

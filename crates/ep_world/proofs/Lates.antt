@@ -5,11 +5,12 @@ use Rattle.ep_units.specs.declared.session.Session.{Session}
 use Rattle.ep_undo.specs.Undo.{UndoState}
 use Rattle.ep_schedule.specs.World.{Conn, Member as AMember}
 use Rattle.ep_schedule.specs.Headline.{first_sent}
-use Rattle.ep_world.specs.declared.member.Member.{Member}
-use Rattle.ep_world.specs.declared.message.Sent.{Sent}
+use Rattle.ep_members.specs.declared.member.Member.{Member}
+use Rattle.ep_members.specs.declared.message.Sent.{Sent}
 use Rattle.ep_world.specs.Actors.{member_of}
-use Rattle.ep_world.specs.Conns.{KeptConn, conn_of}
-use Rattle.ep_world.specs.Members.{TakesLate, TakesLateOf}
+use Rattle.ep_members.specs.Conns.{KeptConn}
+use Rattle.ep_world.specs.Conns.{conn_of}
+use Rattle.ep_members.specs.Members.{TakesLate, TakesLateOf}
 use Rattle.ep_world.specs.Shows.{late_up}
 use Rattle.ep_world.proofs.Conns.{TakesMessage, takes-message, takes-none}
 

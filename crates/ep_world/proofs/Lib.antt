@@ -9,14 +9,12 @@ pub mod Entered
 pub mod Conns
 pub mod Takes
 pub mod Begin
-pub mod Remaking
 pub mod Stacked
 pub mod Leading
 pub mod Crashes
 pub mod Pushes
 pub mod Resuming
 pub mod Showing
-pub mod Places
 pub mod Turns
 pub mod Sends
 pub mod Hears

@@ -36,14 +36,16 @@ use Rattle.ep_pad_state.specs.Answering.{first_of}
 use Rattle.ep_pad_state.specs.declared.answers.Fetched.{Fetched}
 use Rattle.ep_event.specs.declared.event.Event.TheVariants as told
 use Rattle.ep_event.specs.declared.shown.Shown.{Shown}
-use Rattle.ep_world.specs.declared.actors.Actor.TheVariants as actor
+use Rattle.ep_members.specs.declared.actors.Actor.TheVariants as actor
 use Rattle.ep_world.specs.declared.bad.WorldBad.{WorldBad}
-use Rattle.ep_world.specs.declared.member.Member.{Member}
-use Rattle.ep_world.specs.declared.telling.Pushed.{Pushed}
-use Rattle.ep_world.specs.declared.telling.Pushed.TheVariants as pushed
+use Rattle.ep_members.specs.declared.member.Member.{Member}
+use Rattle.ep_members.specs.declared.telling.Pushed.{Pushed}
+use Rattle.ep_members.specs.declared.telling.Pushed.TheVariants as pushed
 use Rattle.ep_world.specs.declared.world.World.{World}
-use Rattle.ep_world.specs.Actors.{PutsActor, actor_of, found, member_of}
-use Rattle.ep_world.specs.Conns.{KeptConn, conn_of, kept_closing_if, kept_tells, kept_tells_spent}
+use Rattle.ep_members.specs.Actors.{PutsActor, found}
+use Rattle.ep_world.specs.Actors.{actor_of, member_of}
+use Rattle.ep_members.specs.Conns.{KeptConn, kept_closing_if, kept_tells, kept_tells_spent}
+use Rattle.ep_world.specs.Conns.{conn_of}
 use Rattle.ep_world.specs.Events.{is_client, of_client}
 use Rattle.ep_world.specs.Pushing.{TellsIf, TellsMember, TellsOf}
 use Rattle.ep_world.specs.Pushing.IsTold.{IsFetched, IsDead}
@@ -51,7 +53,7 @@ use Rattle.ep_world.specs.Shows.{shows_ended, shows_next, shows_push, shows_seat
 use Rattle.ep_world.specs.Journal.{behind, record_in}
 use Rattle.ep_world.specs.Standing.{Comes, IsAnswered, IsAt, IsRun, StandsBut, StandsFor, answer_of, pad_after}
 use Rattle.ep_world.specs.Standing.IsPlayed.{IsEvent}
-use Rattle.ep_world.specs.Telling.{ended_by, pushed_by, pushed_next, pushed_rev, shows_pushed, told_next, told_rev}
+use Rattle.ep_members.specs.Telling.{ended_by, pushed_by, pushed_next, pushed_rev, shows_pushed, told_next, told_rev}
 use Rattle.ep_world.proofs.Brought.{unless-answers, unless-refuses-answer}
 use Rattle.ep_world.proofs.Conns.{conn-closing, conn-spends, conn-tells}
 use Rattle.ep_world.proofs.Calls.{answered-once}
@@ -302,6 +304,11 @@ module _ (w : WorldState) (n : Name) (m : AMember) where
       (ap (λ b. if b then shows_seat n w.pad m.conn (seat_of w.pad m.conn.session) else shows_pushed n pushed.Nothing) t) h.1)
   pushes true p d t (IsFetched f o pq dq) = fetched p d f t o pq dq
   pushes true p d t (IsDead why o pq dq) = ended p d why t o pq dq
+
+-- a connection whose parts are read one by one
+pub read-conn : (c : KeptConn) (s : Session) (sent nops : ℕ) → s ≡ c.session → sent ≡ c.sent → nops ≡ c.nops → record c { session = s; sent = sent; nops = nops } ≡ c
+read-conn c s sent nops a b d =
+    ap (λ x. record c { session = x; sent = sent; nops = nops }) a ∙ ap (λ x. record c { sent = x; nops = nops }) b ∙ ap (λ x. record c { nops = x }) d
 
 module _ {D : Type 0} (told_by : D → Option Contents) (failures : D → ℕ) (stops_alone : D → Bool) (alone : Bool) (rs : List Record) where
   -- what is fetched

@@ -23,14 +23,16 @@ use Rattle.ep_pad_state.specs.declared.answers.CatchUp.{CatchUp}
 use Rattle.ep_event.specs.declared.event.Event.TheVariants as told
 use Rattle.ep_event.specs.declared.shown.Shown.TheVariants as shown
 use Rattle.ep_event.specs.declared.shown.Verb.TheVariants as verb
-use Rattle.ep_world.specs.declared.actors.Actor.TheVariants as actor
-use Rattle.ep_world.specs.declared.member.Member.{Member}
+use Rattle.ep_members.specs.declared.actors.Actor.TheVariants as actor
+use Rattle.ep_members.specs.declared.member.Member.{Member}
 use Rattle.ep_world.specs.declared.world.World.{World}
-use Rattle.ep_world.specs.Actors.{PutsActor, member_of}
-use Rattle.ep_world.specs.Conns.{conn_of, kept_down, kept_new}
+use Rattle.ep_members.specs.Actors.{PutsActor}
+use Rattle.ep_world.specs.Actors.{member_of}
+use Rattle.ep_world.specs.Conns.{conn_of}
+use Rattle.ep_members.specs.Conns.{kept_down, kept_new}
 use Rattle.ep_world.specs.Events.{is_client, of_client}
 use Rattle.ep_world.specs.Failing.{shown_or_failed}
-use Rattle.ep_world.specs.Members.{kept_member_lost, kept_member_resumed}
+use Rattle.ep_members.specs.Members.{kept_member_lost, kept_member_resumed}
 use Rattle.ep_world.specs.Shows.{shows_resume, shows_resumed}
 use Rattle.ep_world.specs.Journal.{behind, full_in, record_in, shows_full}
 use Rattle.ep_world.specs.Standing.{Comes, IsAnswered, IsAt, IsRun, StandsBut, StandsFor, answer_of, pad_after}

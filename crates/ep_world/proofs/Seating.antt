@@ -7,13 +7,15 @@ use Rattle.ep_schedule.specs.World.{Name, Conn, Member as AMember, Actor as AnAc
 use Rattle.ep_schedule.specs.World.Actor.{Nobody, Guest, Named}
 use Rattle.ep_undo.specs.Undo.{UndoState}
 use Rattle.ep_world.specs.Kepts.{Kepts, kept_put}
-use Rattle.ep_world.specs.declared.actors.Actor.{Actor}
-use Rattle.ep_world.specs.declared.actors.Actor.TheVariants as actor
-use Rattle.ep_world.specs.declared.actors.Slot.{Slot}
-use Rattle.ep_world.specs.declared.member.Member.{Member}
+use Rattle.ep_members.specs.declared.actors.Actor.{Actor}
+use Rattle.ep_members.specs.declared.actors.Actor.TheVariants as actor
+use Rattle.ep_members.specs.declared.actors.Slot.{Slot}
+use Rattle.ep_members.specs.declared.member.Member.{Member}
 use Rattle.ep_world.specs.declared.world.World.{World}
-use Rattle.ep_world.specs.Actors.{IsNoClient, IsSame, IsWithout, actor_of, found, member_of}
-use Rattle.ep_world.specs.Conns.{KeptConn, conn_of}
+use Rattle.ep_world.specs.Actors.{IsNoClient, IsSame, actor_of, member_of}
+use Rattle.ep_members.specs.Actors.{IsWithout, found}
+use Rattle.ep_members.specs.Conns.{KeptConn}
+use Rattle.ep_world.specs.Conns.{conn_of}
 use Rattle.ep_world.specs.Events.{is_client}
 use Rattle.ep_world.specs.Standing.{IsAt, StandsBut, StandsFor}
 use Rattle.ep_history.specs.declared.record.Record.{Record}

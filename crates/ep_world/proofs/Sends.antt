@@ -12,7 +12,7 @@ use Rattle.ep_history.specs.Kept.{kept_submitted_from}
 use Rattle.ep_history.proofs.Client.{IsSound}
 use Rattle.ep_history.proofs.Lists.{none_some, some_same}
 use Rattle.ep_history.proofs.Sound.{edit-of}
-use Rattle.ep_world.specs.declared.message.Sent.{Sent}
+use Rattle.ep_members.specs.declared.message.Sent.{Sent}
 use Rattle.ep_world.specs.Conns.{why_unread}
 use Rattle.ep_outside.specs.Disk.{Contents}
 use Rattle.ep_cs.specs.Change.{Change}
@@ -34,20 +34,24 @@ use Rattle.ep_event.specs.declared.event.Local.{Local}
 use Rattle.ep_event.specs.declared.shown.Shown.{Shown}
 use Rattle.ep_event.specs.declared.shown.Shown.TheVariants as shown
 use Rattle.ep_event.specs.declared.shown.Verb.TheVariants as verb
-use Rattle.ep_world.specs.declared.actors.Actor.TheVariants as actor
-use Rattle.ep_world.specs.declared.actors.Slot.{Slot}
+use Rattle.ep_members.specs.declared.actors.Actor.TheVariants as actor
+use Rattle.ep_members.specs.declared.actors.Slot.{Slot}
 use Rattle.ep_world.specs.declared.bad.WorldBad.TheVariants as world_bad
-use Rattle.ep_world.specs.declared.member.Member.{Member}
+use Rattle.ep_members.specs.declared.member.Member.{Member}
 use Rattle.ep_world.specs.declared.world.World.{World}
-use Rattle.ep_world.specs.Actors.{IsSame, IsWithout, PutsActor, actor_of, found, member_of}
-use Rattle.ep_world.specs.Conns.{KeptConn, conn_of, kept_sends, sent_of}
+use Rattle.ep_world.specs.Actors.{IsSame, actor_of, member_of}
+use Rattle.ep_members.specs.Actors.{IsWithout, PutsActor, found}
+use Rattle.ep_members.specs.Conns.{KeptConn, kept_sends}
+use Rattle.ep_world.specs.Conns.{conn_of, sent_of}
 use Rattle.ep_local.specs.Local.{is_local_text, local_bad, local_edit}
-use Rattle.ep_world.specs.declared.undoing.Remake.{Remake}
-use Rattle.ep_world.specs.declared.undoing.Remake.TheVariants as remake
-use Rattle.ep_world.specs.Undoing.{EditsView, FitsIf, Remakes, remade, remade_verb, remake_event, to_make}
+use Rattle.ep_members.specs.declared.undoing.Remake.{Remake}
+use Rattle.ep_members.specs.declared.undoing.Remake.TheVariants as remake
+use Rattle.ep_members.specs.Undoing.{EditsView, FitsIf, Remakes, remade, remade_verb, to_make}
+use Rattle.ep_world.specs.Events.{remake_event}
 use Rattle.ep_world.specs.Events.{edit_at, edit_if, event_at, happened, has_text, is_client, is_guest, is_known, kept_happened, made_top, of_client, view_of}
-use Rattle.ep_world.specs.Members.{SubmitsOf, SubmitsUp}
-use Rattle.ep_world.specs.Shows.{shows, shows_edit, shows_edited, shows_remade, shows_sent, shows_submit, shows_submitted, verb_of}
+use Rattle.ep_members.specs.Members.{SubmitsOf, SubmitsUp}
+use Rattle.ep_world.specs.Shows.{shows, shows_edit, shows_edited, shows_sent, shows_submit, shows_submitted, verb_of}
+use Rattle.ep_members.specs.Undoing.{shows_remade}
 use Rattle.ep_world.specs.Standing.{Comes, IsAt, IsPlayed, IsRun, StandsFor}
 use Rattle.ep_world.specs.Standing.IsPlayed.{IsEvent}
 use Rattle.ep_world.proofs.Leading.{sent}
@@ -87,6 +91,10 @@ submitted-edit b c k j g h e = connected k.connected e
     connected : (t : Bool) → (if t then kept_submitted_from k k.sent_in else None) ≡ Some j → is_edit j.sent ≡ true
     connected true e = from k.sent_in e
     connected false e = none_some e
+
+pub known-remake : (w : WorldState) (rm : Remake) (n : Name) → is_known w (remake_event rm n) ≡ is_client (w.actors n)
+known-remake w remake.Undo n = refl
+known-remake w remake.Redo n = refl
 
 module _ {D : Type 0} (told_by : D → Option Contents) (failures : D → ℕ) (stops_alone : D → Bool) (alone : Bool) (rs : List Record) where
   -- what a world and its clients are equal to
@@ -154,7 +162,7 @@ module _ {D : Type 0} (told_by : D → Option Contents) (failures : D → ℕ) (
       → StandsFor told_by failures stops_alone alone rs old w ks → new.machine ≡ old.machine → new.id ≡ old.id → IsTurn old.actors n m m' new.actors
       → Remakes rm n m m' s → Comes told_by failures stops_alone alone rs w ks now (remake_event rm n) new (Ok s)
   remakes old new w ks n now rm m m' s r st machine id turn z =
-      (known rm ∙ ap is_client t.named, textful rm, go (to_make rm (ks n)) refl (subst (λ (k : UndoState). FitsIf (to_make rm k) k.client.view) client z.2.1))
+      (known-remake w rm n ∙ ap is_client t.named, textful rm, go (to_make rm (ks n)) refl (subst (λ (k : UndoState). FitsIf (to_make rm k) k.client.view) client z.2.1))
     where
       t : Turns told_by failures stops_alone alone rs new w ks n m m'
       t = turns told_by failures stops_alone alone rs old new w ks n m m' st machine id turn
@@ -167,10 +175,6 @@ module _ {D : Type 0} (told_by : D → Option Contents) (failures : D → ℕ) (
 
       client : m.client ≡ ks n
       client = ap (λ (y : Member). y.client) t.is
-
-      known : (rm : Remake) → is_known w (remake_event rm n) ≡ is_client (w.actors n)
-      known remake.Undo = refl
-      known remake.Redo = refl
 
       textful : (rm : Remake) → has_text (remake_event rm n) ≡ true
       textful remake.Undo = refl

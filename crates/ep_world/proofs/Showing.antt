@@ -38,7 +38,8 @@ use Rattle.ep_world.specs.declared.reading.Top.TheVariants as top
 use Rattle.ep_world.specs.declared.bad.WorldBad.{WorldBad}
 use Rattle.ep_world.specs.declared.bad.WorldBad.TheVariants as world_bad
 use Rattle.ep_world.specs.declared.world.World.{World}
-use Rattle.ep_world.specs.Actors.{actor_of, found}
+use Rattle.ep_world.specs.Actors.{actor_of}
+use Rattle.ep_members.specs.Actors.{found}
 use Rattle.ep_world.specs.Events.{of_client, view_of}
 use Rattle.ep_world.specs.Reading.{ShowsClient, ShowsPad, TellsHead, client_kept, head_there}
 use Rattle.ep_world.specs.Shows.{pad_refuses, shows_client, shows_head, shows_marks, shows_text, shows_text_if, shows_view, shows_view_marks, state_of}

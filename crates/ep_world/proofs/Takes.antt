@@ -24,16 +24,18 @@ use Rattle.ep_event.specs.declared.event.Event.TheVariants as told
 use Rattle.ep_event.specs.declared.shown.Ended.TheVariants as ended
 use Rattle.ep_event.specs.declared.shown.Shown.TheVariants as shown
 use Rattle.ep_event.specs.declared.shown.Verb.TheVariants as verb
-use Rattle.ep_world.specs.declared.actors.Actor.{Actor}
-use Rattle.ep_world.specs.declared.actors.Actor.TheVariants as actor
+use Rattle.ep_members.specs.declared.actors.Actor.{Actor}
+use Rattle.ep_members.specs.declared.actors.Actor.TheVariants as actor
 use Rattle.ep_world.specs.declared.bad.WorldBad.{WorldBad}
 use Rattle.ep_world.specs.declared.bad.WorldBad.TheVariants as world_bad
 use Rattle.ep_world.specs.Failing.{IsFailure}
 use Rattle.ep_world.specs.declared.taking.Took.{Took}
 use Rattle.ep_world.specs.declared.taking.Took.TheVariants as took
 use Rattle.ep_world.specs.declared.world.World.{World}
-use Rattle.ep_world.specs.Actors.{PutsActor, actor_of, member_of}
-use Rattle.ep_world.specs.Conns.{conn_of, kept_closing, kept_closing_if, word_of}
+use Rattle.ep_members.specs.Actors.{PutsActor}
+use Rattle.ep_world.specs.Actors.{actor_of, member_of}
+use Rattle.ep_world.specs.Conns.{conn_of, word_of}
+use Rattle.ep_members.specs.Conns.{kept_closing, kept_closing_if}
 use Rattle.ep_world.specs.Events.{is_client, is_nobody, of_client}
 use Rattle.ep_world.specs.Journal.{full_by, full_for, full_in, full_take, is_shut, record_at, record_if, record_taken, shows_full, unopened}
 use Rattle.ep_world.specs.Shows.{late_up, reason_of, shows_first, shows_made, shows_taken}

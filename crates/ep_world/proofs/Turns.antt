@@ -1,5 +1,7 @@
 -- A client is taken out, makes its step, and is put back.
 use Rattle.std.proofs.Common.{◌≡◌, ℕ, Bool, true, false, List, ◌∷◌, Option, Some, None, if◌then◌else◌, refl, sym, ap, ◌∙◌, subst}
+use Rattle.std.specs.Borrow.{MutBor}
+use Rattle.std.specs.Option.{OnSome, option_map}
 use Rattle.ep_units.specs.Text.{text_eq}
 use Rattle.ep_outside.specs.Disk.{Contents}
 use Rattle.ep_history.specs.Kept.{Keeps}
@@ -8,15 +10,18 @@ use Rattle.ep_history.proofs.Client.{IsSound}
 use Rattle.ep_schedule.specs.World.{Name, Member as AMember, Actor as AnActor, WorldState, put, start}
 use Rattle.ep_schedule.proofs.Good.{IsGoodWorld, at-name}
 use Rattle.ep_schedule.proofs.Runs.{run-good, start-good}
-use Rattle.ep_schedule.specs.World.Actor.{Named}
+use Rattle.ep_schedule.specs.World.Actor.{Nobody, Guest, Named}
 use Rattle.ep_schedule.specs.Kepts.{KeepsActor}
 use Rattle.ep_undo.specs.Undo.{UndoState}
+use Rattle.ep_world.specs.Events.{is_client}
 use Rattle.ep_world.specs.Kepts.{Kepts, kept_put}
-use Rattle.ep_world.specs.declared.actors.Actor.TheVariants as actor
-use Rattle.ep_world.specs.declared.actors.Slot.{Slot}
-use Rattle.ep_world.specs.declared.member.Member.{Member}
+use Rattle.ep_members.specs.declared.actors.Actor.{Actor}
+use Rattle.ep_members.specs.declared.actors.Actor.TheVariants as actor
+use Rattle.ep_members.specs.declared.actors.Slot.{Slot}
+use Rattle.ep_members.specs.declared.member.Member.{Member}
 use Rattle.ep_world.specs.declared.world.World.{World}
-use Rattle.ep_world.specs.Actors.{IsWithout, PutsActor, Steps, actor_of, found, member_of}
+use Rattle.ep_members.specs.Actors.{IsWithout, PutsActor, client_of, found}
+use Rattle.ep_world.specs.Actors.{Steps, actor_of, member_of}
 use Rattle.ep_world.specs.Standing.{IsAt, IsRun, StandsFor}
 use Rattle.ep_world.proofs.Leading.{kept}
 use Rattle.ep_world.proofs.Seating.{is-named, put-actors, put-back, same-stands, without-others}
@@ -54,7 +59,31 @@ in-place old n m m' new s = record {
     go q true = refl
     go q false = refl
 
+-- where it was lent to take its step
+pub lent-turn : (old : List Slot) (n : Name) (m m' : Member) (new : List Slot) (r : Option (MutBor Member)) (x : MutBor Member) → r ≡ Some x → Some m ≡ client_of (found old n)
+    → OnSome r (PutsActor old n (actor.Named m') new) → IsTurn old n m m' new
+lent-turn old n m m' new r x is told puts = in-place old n m m' new (go (found old n) told, subst (λ o. OnSome o (PutsActor old n (actor.Named m') new)) is puts)
+  where
+    go : (o : Option Actor) → Some m ≡ client_of o → o ≡ Some (actor.Named m)
+    go None e = absurd cc
+    go (Some (actor.Guest c)) e = absurd cc
+    go (Some (actor.Named y)) e = sym (ap (λ (z : Option Member). option_map actor.Named z) e)
+
+-- nobody who is lent is no client
+no-client-of : (a : AnActor) (k : UndoState) → None ≡ client_of (actor_of a k) → is_client a ≡ false
+no-client-of Nobody k e = refl
+no-client-of (Guest c) k e = refl
+no-client-of (Named x) k e = absurd cc
+
 module _ {D : Type 0} (told_by : D → Option Contents) (failures : D → ℕ) (stops_alone : D → Bool) (alone : Bool) (rs : List Record) where
+  -- nobody is lent, and the world stands as before
+  pub nobody-lent : (old new : World D) (w : WorldState) (ks : Kepts) (n : Name) → StandsFor told_by failures stops_alone alone rs old w ks → new.machine ≡ old.machine → new.id ≡ old.id
+      → None ≡ client_of (found old.actors n) → new.actors ≡ old.actors → (is_client (w.actors n) ≡ false) × StandsFor told_by failures stops_alone alone rs new w ks
+  nobody-lent old new w ks n s machine id told same = (
+    no-client-of (w.actors n) (ks n) (told ∙ ap client_of (s.actors n)),
+    same-stands told_by failures stops_alone alone rs old new w ks s (subst (λ h. IsAt told_by failures stops_alone alone rs h w.pad) (sym machine) s.machine) id (λ q. ap (λ ss. found ss q) same),
+  )
+
   -- whose turn it is, and for what the world stands behind it
   pub record Turns (new : World D) (w : WorldState) (ks : Kepts) (n : Name) (m m' : Member) : Type 0 where
     pub member : AMember

@@ -3,8 +3,8 @@ use Rattle.std.specs.Prelude.{None}
 use Rattle.ep_history.specs.Kept.{kept_started}
 use Rattle.ep_undo.specs.Undo.{undo_started}
 use Rattle.ep_pad_state.specs.declared.answers.Welcome.{Welcome}
-use Rattle.ep_world.specs.declared.member.Member.{Member}
-use Rattle.ep_world.specs.Conns.{kept_new}
+use Rattle.ep_members.specs.declared.member.Member.{Member}
+use Rattle.ep_members.specs.Conns.{kept_new}
 
 -- a client that starts at what it was welcomed with, and has nothing to take back
 abbrev pub started_member : Welcome → Member

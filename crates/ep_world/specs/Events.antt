@@ -6,11 +6,13 @@ use Rattle.ep_cs.specs.Edit.{Edit}
 use Rattle.ep_invert.specs.declared.bad.SpliceBad.{SpliceBad}
 use Rattle.ep_history.specs.Client.{view}
 use Rattle.ep_history.specs.Pad.{PadState, birth_at}
-use Rattle.ep_schedule.specs.World.{Member, Actor, WorldState, Event, happens}
+use Rattle.ep_schedule.specs.World.{Name, Member, Actor, WorldState, Event, happens}
 use Rattle.ep_schedule.specs.World.Actor.{Nobody, Guest, Named}
 use Rattle.ep_schedule.specs.World.Event.{Create, SetText, Delete, Login, Visit, Edits, Submit, Inject, Take, Late, Push, Hear, Lose, Resume, Stop}
 use Rattle.ep_undo.specs.Undo.{top}
 use Rattle.ep_world.specs.Kepts.{Kepts, kept_steps}
+use Rattle.ep_members.specs.declared.undoing.Remake.{Remake}
+use Rattle.ep_members.specs.declared.undoing.Remake.TheVariants as remake
 use Rattle.ep_event.specs.declared.event.Local.{Local}
 use Rattle.ep_local.specs.Local.{is_local_text, local_bad, local_edit}
 use Rattle.ep_event.specs.declared.event.StopAt.{StopAt}
@@ -67,6 +69,11 @@ event_at w ks now kept (told.Hear n) = Some (Hear n)
 event_at w ks now kept (told.Lose n) = Some (Lose n)
 event_at w ks now kept (told.Resume n) = Some (Resume n)
 event_at w ks now kept (told.Stop at) = Some (Stop now (stopped_name at) kept)
+
+-- what is asked for by an undo, or a redo
+abbrev pub remake_event : Remake → Name → Told
+remake_event remake.Undo n = told.Undo n
+remake_event remake.Redo n = told.Redo n
 
 -- the world, and the clients as they are kept, after an event, where there is one
 abbrev pub happened : WorldState → Option Event → WorldState

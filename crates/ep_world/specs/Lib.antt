@@ -8,10 +8,7 @@ pub mod Shows
 pub mod Journal
 pub mod Standing
 pub mod Taking
-pub mod Telling
 pub mod Pushing
-pub mod Members
-pub mod Undoing
 pub mod Stopping
 pub mod Entering
 pub mod Leading

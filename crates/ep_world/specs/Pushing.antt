@@ -10,12 +10,12 @@ use Rattle.ep_history.specs.Readings.{Fetched}
 use Rattle.ep_history.specs.declared.pad_bad.PadBad.TheVariants as bad
 use Rattle.ep_history.specs.declared.seat.Why.{Why}
 use Rattle.ep_pad.specs.Held.{Held}
-use Rattle.ep_world.specs.declared.member.Member.{Member}
-use Rattle.ep_world.specs.declared.telling.Pushed.{Pushed}
-use Rattle.ep_world.specs.declared.telling.Pushed.TheVariants as pushed
-use Rattle.ep_world.specs.Conns.{KeptConn, kept_closing_if}
+use Rattle.ep_members.specs.declared.member.Member.{Member}
+use Rattle.ep_members.specs.declared.telling.Pushed.{Pushed}
+use Rattle.ep_members.specs.declared.telling.Pushed.TheVariants as pushed
+use Rattle.ep_members.specs.Conns.{KeptConn, kept_closing_if}
 use Rattle.ep_world.specs.Standing.{IsAt}
-use Rattle.ep_world.specs.Telling.{ended_by, pushed_by, pushed_next, told_next}
+use Rattle.ep_members.specs.Telling.{ended_by, pushed_by, pushed_next, told_next}
 use Rattle.ep_history.specs.declared.record.Record.{Record}
 
 -- what the pad answers to a fetch of a connection, and what the connection is told of it

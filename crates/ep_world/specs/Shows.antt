@@ -1,9 +1,6 @@
 -- What is shown of an event, and of the world.
 use Rattle.std.specs.Prelude.{ℕ, suc, Bool, true, false, not, ◌&&◌, ◌==◌, nat_le, if◌then◌else◌, List, [], ◌∷◌, Option, Some, None}
 use Rattle.ep_units.specs.declared.session.Session.{Session}
-use Rattle.ep_cs.specs.Change.{stamped}
-use Rattle.ep_cs.specs.Doc.{Doc, text_of}
-use Rattle.ep_cs.specs.Edit.{Edit}
 use Rattle.ep_invert.specs.declared.bad.SpliceBad.{SpliceBad}
 use Rattle.ep_invert.specs.declared.bad.SpliceBad.TheVariants as splice
 use Rattle.ep_history.specs.Accept.{at_head}
@@ -41,6 +38,7 @@ use Rattle.ep_event.specs.declared.shown.Shown.{Shown}
 use Rattle.ep_event.specs.declared.shown.Shown.TheVariants as shown
 use Rattle.ep_world.specs.Conns.{why_unread, word_of}
 use Rattle.ep_local.specs.Local.{local_bad}
+use Rattle.ep_members.specs.Undoing.{shows_remade}
 use Rattle.ep_undo.specs.Undo.{top}
 use Rattle.ep_world.specs.Kepts.{Kepts}
 use Rattle.ep_world.specs.Events.{of_client, view_of, event_at, happened}
@@ -107,11 +105,6 @@ shows_edited v n (Some b) = shown.Refused v (Some n) (edit_reason b)
 
 abbrev pub shows_edit : WorldState → Name → Local → Member → Shown
 shows_edit w n e m = shows_edited (verb_of e) n (local_bad e (view_of w.pad m))
-
--- what is taken back or made again, as a change of what the client sees; or that there is nothing
-abbrev pub shows_remade : Verb → Name → Doc → Option Edit → Shown
-shows_remade v n doc None = shown.Nothing v n
-shows_remade v n doc (Some u) = shown.Remade v n (stamped u (text_of doc))
 
 -- what a client sent
 abbrev pub shows_sent : Name → Option Submission → Shown

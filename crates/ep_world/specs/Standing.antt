@@ -23,7 +23,8 @@ use Rattle.ep_event.specs.declared.event.Event.TheVariants as told
 use Rattle.ep_event.specs.declared.shown.Shown.{Shown}
 use Rattle.ep_world.specs.declared.bad.WorldBad.{WorldBad}
 use Rattle.ep_world.specs.declared.bad.WorldBad.TheVariants as world_bad
-use Rattle.ep_world.specs.Actors.{AreActors, actor_of, found}
+use Rattle.ep_world.specs.Actors.{AreActors, actor_of}
+use Rattle.ep_members.specs.Actors.{found}
 use Rattle.ep_world.specs.Events.{event_at, happened, kept_happened, is_known, has_text, stopped_name}
 use Rattle.ep_world.specs.declared.world.World.{World}
 use Rattle.ep_world.specs.Journal.{Decides, behind, full_at, full_by, full_in, is_shut, journal_after, journal_full, record_in, unopened}

@@ -9,14 +9,14 @@ use Rattle.ep_schedule.specs.World.{Name, Message, Reason as AReason, reason}
 use Rattle.ep_pad.specs.Held.{Held}
 use Rattle.ep_outside.specs.declared.image.Image.{Image}
 use Rattle.ep_pad.specs.Standing.{opening}
-use Rattle.ep_world.specs.declared.actors.Actor.{Actor}
-use Rattle.ep_world.specs.declared.actors.Actor.TheVariants as actor
-use Rattle.ep_world.specs.declared.actors.Slot.{Slot}
+use Rattle.ep_members.specs.declared.actors.Actor.{Actor}
+use Rattle.ep_members.specs.declared.actors.Slot.{Slot}
 use Rattle.ep_world.specs.declared.bad.WorldBad.{WorldBad}
 use Rattle.ep_world.specs.declared.bad.WorldBad.TheVariants as world_bad
-use Rattle.ep_world.specs.declared.message.Sent.{Sent}
-use Rattle.ep_world.specs.Actors.{IsSame, PutsActor, found}
-use Rattle.ep_world.specs.Conns.{KeptConn, TakesUp, sent_of}
+use Rattle.ep_members.specs.declared.message.Sent.{Sent}
+use Rattle.ep_world.specs.Actors.{IsSame}
+use Rattle.ep_members.specs.Actors.{PutsActor, TakesFirst, found}
+use Rattle.ep_world.specs.Conns.{sent_of}
 use Rattle.ep_pad.specs.Opening.{HasRisenTo}
 use Rattle.ep_history.specs.declared.pad_bad.PadBad.{PadBad}
 use Rattle.ep_history.specs.declared.pad_bad.PadBad.TheVariants as bad
@@ -28,18 +28,6 @@ use Rattle.ep_world.specs.Standing.{IsOpenAt, IsShutAt}
 use Rattle.ep_history.specs.declared.record.Record.{Record}
 
 -- ---- the first message
-
--- of a connection, with its session
-abbrev pub TakesSent : KeptConn → Option (Session × Sent) → KeptConn → Type 0
-TakesSent old None new = TakesUp old None new
-TakesSent old (Some x) new = (x.0 ≡ old.session) × TakesUp old (Some x.1) new
-
--- of somebody
-abbrev pub TakesFirst : Actor → Option (Session × Sent) → Actor → Type 0
-TakesFirst (actor.Guest c) x (actor.Guest d) = TakesSent c x d
-TakesFirst (actor.Named m) x (actor.Named n) = (d : KeptConn) × TakesSent m.conn x d × (n ≡ record m { conn = d })
-TakesFirst (actor.Guest c) x (actor.Named n) = ⊥
-TakesFirst (actor.Named m) x (actor.Guest d) = ⊥
 
 -- of whom a name stands for
 abbrev pub FindsFirst : List Slot → Name → Result (Option (Session × Sent)) WorldBad → List Slot → Type 0

@@ -5,20 +5,19 @@ ghost use Rattle.ep_schedule.specs.World.{WorldState, author_of, grant_of};
 ghost use Rattle.ep_event.specs.declared.event.Event.TheVariants as event;
 ghost use Rattle.ep_event.specs.declared.shown.Shown.TheVariants as shown;
 ghost use Rattle.ep_event.specs.declared.shown.Verb.TheVariants as verb;
-ghost use Rattle.ep_world.specs.declared.actors.Actor.TheVariants as actor;
-ghost use Rattle.ep_world.specs.Actors.{PutsActor};
-ghost use Rattle.ep_world.specs.Conns.{kept_new};
+ghost use Rattle.ep_members.specs.declared.actors.Actor.TheVariants as actor;
+ghost use Rattle.ep_members.specs.Actors.{PutsActor};
+ghost use Rattle.ep_members.specs.Conns.{kept_new};
 ghost use Rattle.ep_world.specs.Entering.{started_member};
 ghost use Rattle.ep_world.specs.Shows.{visit_verb};
 ghost use Rattle.ep_world.specs.Standing.{Ends, Plays};
 
-use crate::actors::{Actor, Actors};
 use crate::bad::{WorldBad, refused};
-use crate::conn::Conn;
-use crate::member::Member;
+use crate::clients;
 use crate::world::World;
 use ep_client::Client;
 use ep_event::{Shown, Verb};
+use ep_members::{Actor, Actors, Conn, Member};
 use ep_outside::Crash;
 use ep_pad::Welcome;
 use ep_undo::UndoClient;
@@ -67,7 +66,7 @@ impl<D: Crash> World<D> {
         ensures plays { Plays D.told D.failures D.stops_alone self.old now (event.Resume name) result self.new }
         ensures ends { Ends D.told D.failures D.stops_alone self.old now (event.Resume name) result self.new }
     {
-        let mut member = self.actors.member(self.alloc, &name)?;
+        let mut member = clients::member(self.alloc, &mut self.actors, &name)?;
         member.lose();
         let grant = grant(self.alloc, &self.id, &name, false)?;
         let birth = Some(member.birth);

@@ -17,13 +17,13 @@ ghost use Rattle.ep_world.specs.Shows.{shows_head, shows_marks, shows_text, show
 ghost use Rattle.ep_world.specs.Standing.{IsAt, IsRun, StandsFor};
 ghost use Rattle.ep_history.specs.declared.record.Record.{Record};
 
-use crate::actors::Actor;
 use crate::bad::{WorldBad, failure, full};
 use crate::world::World;
 use ep_apply::Doc;
 use ep_client::Client;
 use ep_event::{Shown, State, Verb};
 use ep_history::PadBad;
+use ep_members::Actor;
 use ep_outside::{Crash, Disk};
 use ep_pad::PadMachine;
 use ep_units::Units;

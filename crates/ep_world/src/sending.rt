@@ -6,17 +6,15 @@ ghost use Rattle.ep_event.specs.declared.event.Event.TheVariants as event;
 ghost use Rattle.ep_local.specs.Local.{is_local_text};
 ghost use Rattle.ep_world.specs.Shows.{shows_edited, verb_of};
 ghost use Rattle.ep_world.specs.Standing.{Ends, Plays};
-ghost use Rattle.ep_world.specs.Undoing.{remake_event};
+ghost use Rattle.ep_world.specs.Events.{remake_event};
 
-use crate::actors::Actor;
 use crate::bad::WorldBad;
-use crate::message::Sent;
-use crate::undoing::Remake;
 use crate::world::World;
 use ep_cs::Change;
 use ep_csread::ReadBad;
 use ep_event::{Local, Reason, Shown, Verb};
 use ep_invert::SpliceBad;
+use ep_members::{Actor, Remake, Sent};
 use ep_outside::Crash;
 use ep_units::{NoMemory, Units};
 
@@ -29,7 +27,10 @@ impl<D: Crash> World<D> {
         if !is_text(edit) {
             return Err(WorldBad::NoText);
         }
-        let bad = self.actors.edit(self.alloc, &name, edit)?;
+        let Some(member) = self.actors.client(&name) else {
+            return Err(WorldBad::Unknown);
+        };
+        let bad = member.edit(self.alloc, edit)?;
         Ok(show_edited(verb_of(edit), name, bad))
     }
 
@@ -38,7 +39,10 @@ impl<D: Crash> World<D> {
         ensures plays { (now : ℕ) → Plays D.told D.failures D.stops_alone self.old now (remake_event remake name) result self.new }
         ensures ends { (now : ℕ) → Ends D.told D.failures D.stops_alone self.old now (remake_event remake name) result self.new }
     {
-        Ok(self.actors.remake(self.alloc, remake, name)?)
+        let Some(member) = self.actors.client(&name) else {
+            return Err(WorldBad::Unknown);
+        };
+        Ok(member.remake(self.alloc, remake, name)?)
     }
 
     /// A client sends what it has to send.
@@ -46,7 +50,10 @@ impl<D: Crash> World<D> {
         ensures plays { (now : ℕ) → Plays D.told D.failures D.stops_alone self.old now (event.Submit name) result self.new }
         ensures ends { (now : ℕ) → Ends D.told D.failures D.stops_alone self.old now (event.Submit name) result self.new }
     {
-        Ok(self.actors.submit(self.alloc, name)?)
+        let Some(member) = self.actors.client(&name) else {
+            return Err(WorldBad::Unknown);
+        };
+        Ok(member.submit(self.alloc, name)?)
     }
 
     /// A guest sends a change, or a text that spells none.

@@ -14,16 +14,14 @@ ghost use Rattle.ep_world.specs.declared.bad.WorldBad.TheVariants as wanting;
 ghost use Rattle.ep_world.specs.Failing.{IsFailure};
 ghost use Rattle.ep_world.specs.Journal.{is_shut};
 ghost use Rattle.ep_world.specs.Standing.{Ends, IsAt, IsOpenAt, Plays};
-ghost use Rattle.ep_world.specs.Stopping.{BreaksNot, BreaksOff, FindsFirst, Reopens, Starts, TakesFirst, TakesSent, shows_start, taken_of};
+ghost use Rattle.ep_world.specs.Stopping.{BreaksNot, BreaksOff, FindsFirst, Reopens, Starts, shows_start, taken_of};
 ghost use Rattle.ep_history.specs.declared.record.Record.{Record};
 
-use crate::actors::{Actor, Actors};
 use crate::bad::{WorldBad, failure, full};
-use crate::conn::Conn;
-use crate::message::Sent;
 use crate::world::World;
 use ep_event::{Shown, StopAt, Verb};
 use ep_history::PadBad;
+use ep_members::{Actors, Sent};
 use ep_outside::{Crash, Disk, Image};
 use ep_pad::{Committed, PadMachine};
 use ep_units::{Session, Units};
@@ -178,25 +176,6 @@ fn first_sent(
         }
         None => Err(WorldBad::Unknown),
     }
-}
-
-impl Actor {
-    /// The first message of the queue up, with its session.
-    fn first_sent(&mut self) -> Option<(Session, Sent)>
-        ensures { TakesFirst self.old result self.new }
-    {
-        match self {
-            Actor::Guest(conn) => first_of(conn),
-            Actor::Named(member) => first_of(&mut member.conn),
-        }
-    }
-}
-
-fn first_of(conn: &mut Conn) -> Option<(Session, Sent)>
-    ensures { TakesSent conn.old result conn.new }
-{
-    let sent = conn.take()?;
-    Some((conn.session, sent))
 }
 
 /// The number of the opening, and the head where the pad is there; or that the journal has no room for the opening.

@@ -19,15 +19,13 @@ ghost use Rattle.ep_world.specs.Shows.{shows_made};
 ghost use Rattle.ep_world.specs.Taking.{Brings, Settles, closing_of, closing_word, not_made, shows_late, shows_took};
 ghost use Rattle.ep_history.specs.declared.record.Record.{Record};
 
-use crate::actors::Actor;
 use crate::bad::{WorldBad, failure, full};
-use crate::conn::Conn;
-use crate::member::Member;
-use crate::message::Sent;
+use crate::clients;
 use crate::world::World;
 use ep_cs::Change;
 use ep_event::{Ended, Reason, Shown, Verb};
 use ep_history::{PadBad, Why};
+use ep_members::{Actor, Conn, Member, Sent};
 use ep_outside::{Crash, Disk};
 use ep_pad::{Committed, PadMachine};
 use ep_units::{Session, Units};
@@ -111,7 +109,7 @@ impl<D: Crash> World<D> {
         ensures plays { Plays D.told D.failures D.stops_alone self.old now (event.Late name) result self.new }
         ensures ends { Ends D.told D.failures D.stops_alone self.old now (event.Late name) result self.new }
     {
-        let mut member = self.actors.member(self.alloc, &name)?;
+        let mut member = clients::member(self.alloc, &mut self.actors, &name)?;
         let Some((session, sent)) = member.late() else {
             self.actors.seat(self.alloc, &name, member)?;
             return Ok(Shown::Nothing {

@@ -8,10 +8,9 @@ ghost use Rattle.ep_pad_file.specs.Standing.{Holds};
 ghost use Rattle.ep_world.specs.Journal.{begun};
 ghost use Rattle.ep_world.specs.Standing.{Ends, IsLent, IsUnbegun, Plays, StandsFor};
 
-use crate::actors::Actors;
 use crate::bad::{WorldBad, opening_failure};
-use crate::undoing::Remake;
 use ep_event::{Event, Shown};
+use ep_members::{Actors, Remake};
 use ep_outside::{Crash, Limits, Refused};
 use ep_pad::PadMachine;
 use ep_units::PadId;

@@ -1,22 +1,21 @@
-use Rattle.std.proofs.Common.{refl, rules}
+use Rattle.std.proofs.Common.{refl}
 use Rattle.ep_world.specs.declared.world.World.{World}
 use Rattle.ep_world.proofs.Hears.{hears-down}
-use Rattle.ep_world.proofs.Turns.{in-place}
-use Rattle.ep_event.specs.declared.event.Event.TheVariants as told
-use Rattle.ep_world.proofs.Counting.{as-err, caused-ends, memory-caused}
+use Rattle.ep_world.proofs.Turns.{lent-turn, nobody-lent}
 use Rattle.ep_world.proofs.world.World.hear.Goals as goal
+
+pub returns-in_default-clause-plays : goal.returns-in_default-clause-plays
+returns-in_default-clause-plays g c = λ now alone rs w ks r s.
+    let old = c.args.self.now in
+    let new : World g.row.D.Denot = record { alloc = old.alloc; id = old.id; machine = old.machine; actors = c.client.follows.lender-at-none } in
+    let x = nobody-lent g.D.Disk.told g.D.Device.failures g.D.Disk.stops_alone alone rs old new w ks c.args.name s refl refl c.in_default.ensures.told c.client.follows.holds-at-none in
+    (x.0, x.1)
 
 pub returns-clause-plays : goal.returns-clause-plays
 returns-clause-plays g c = λ now alone rs w ks r s.
     let old = c.args.self.now in
-    let h = c.in_ok-hear.ensures.heard in
-    let m = h.0 in
-    let m' = h.1.0 in
-    let new : World g.row.D.Denot = record { alloc = old.alloc; id = old.id; machine = old.machine; actors = c.hear.new.self } in
-    hears-down g.D.Disk.told g.D.Device.failures g.D.Disk.stops_alone alone rs old new w ks c.args.name now m m' c.in_ok-hear.field-0 r s refl refl
-    (in-place old.actors c.args.name m m' c.hear.new.self h.1.1) h.1.2
-
-pub returns-in_err-hear-clause-ends : goal.returns-in_err-hear-clause-ends
-returns-in_err-hear-clause-ends g c = λ now alone rs w ks run s.
-    let b = c.in_err-hear.field-0.0 in
-    as-err _ _ c.from_residual.result b (search rules) (caused-ends alone (told.Hear c.args.name) _ _ b (memory-caused _ _ b c.in_err-hear.ensures.failed))
+    let m = c.in-Some.member.now in
+    let m' = c.hear.new.self in
+    let new : World g.row.D.Denot = record { alloc = old.alloc; id = old.id; machine = old.machine; actors = c.client.follows.lender m' } in
+    let turn = lent-turn old.actors c.args.name m m' new.actors c.client.result c.in-Some.member c.in-Some.is c.in-Some.ensures.told (c.client.follows.holds m') in
+    hears-down g.D.Disk.told g.D.Device.failures g.D.Disk.stops_alone alone rs old new w ks c.args.name now m m' c.in_ok-hear.field-0 r s refl refl turn c.in_ok-hear.ensures

@@ -1,8 +1,8 @@
 use Rattle.std.proofs.Common.{◌≡◌, Some, refl, sym, ap, ◌∙◌}
-use Rattle.ep_world.specs.declared.actors.Actor.TheVariants as actor
-use Rattle.ep_world.specs.declared.message.Sent.{Sent}
-use Rattle.ep_world.specs.Actors.{found}
-use Rattle.ep_world.specs.Conns.{kept_sends}
+use Rattle.ep_members.specs.declared.actors.Actor.TheVariants as actor
+use Rattle.ep_members.specs.declared.message.Sent.{Sent}
+use Rattle.ep_members.specs.Actors.{found}
+use Rattle.ep_members.specs.Conns.{kept_sends}
 use Rattle.ep_world.specs.declared.world.World.{World}
 use Rattle.ep_world.proofs.Sends.{client-injects, injects, nobody-injects}
 use Rattle.ep_world.proofs.world.World.inject.Goals as goal

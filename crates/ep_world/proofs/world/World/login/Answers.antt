@@ -5,7 +5,7 @@ use Rattle.ep_schedule.specs.World.{grant_of}
 use Rattle.ep_pad.specs.Standing.{replied}
 use Rattle.ep_pad_state.specs.Answering.{welcome_of}
 use Rattle.ep_world.specs.declared.world.World.{World}
-use Rattle.ep_world.specs.Actors.{is_a_guest}
+use Rattle.ep_members.specs.Actors.{is_a_guest}
 use Rattle.ep_world.specs.Standing.{IsAnswered}
 use Rattle.ep_world.proofs.Calls.{answered}
 use Rattle.ep_world.proofs.Entered.{guest-known, logged-in, login-refused}

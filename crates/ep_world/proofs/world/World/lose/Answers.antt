@@ -12,7 +12,7 @@ returns-clause-plays g c = λ now alone rs w ks r s.
     let old = c.args.self.now in
     let new : World g.row.D.Denot = record { alloc = old.alloc; id = old.id; machine = old.machine; actors = c.seat.new.self } in
     loses g.D.Disk.told g.D.Device.failures g.D.Disk.stops_alone alone rs old new w ks c.args.name now m.member c.lose.new.self c.is_connected-was.result c.show_lost.result r s refl refl
-    (record { between = c.member.new.self; taken = m.ensures.taken.0; without = m.ensures.taken.1; seated = c.in_ok-seat.ensures })
+    (record { between = c.member.new.actors; taken = m.ensures.taken.0; without = m.ensures.taken.1; seated = c.in_ok-seat.ensures })
     (c.is_connected-was.ensures ∙ ap (λ (k : KeptClient). k.connected) c.client.ensures.shown) c.lose.ensures c.show_lost.ensures
 
 pub returns-in_err-member-clause-ends : goal.returns-in_err-member-clause-ends

@@ -18,7 +18,7 @@ returns-in-Ok-clause-plays g c = λ alone rs w ks r s.
     let new : World g.row.D.Denot = record { alloc = old.alloc; id = old.id; machine = c.resume.new.self; actors = c.seat.new.self } in
     let m = c.in_ok-member in
     resumed-turn g.D.Disk.told g.D.Device.failures g.D.Disk.stops_alone alone rs old new w ks c.args.name c.args.now m.member c.lose.new.self c.resume-in-Ok.new.self c.in_ok-grant.grant c.rev.result c.in-Ok.told r s refl
-    (record { between = c.member.new.self; taken = m.ensures.taken.0; without = m.ensures.taken.1; seated = c.in_ok-seat-in-Ok.ensures })
+    (record { between = c.member.new.actors; taken = m.ensures.taken.0; without = m.ensures.taken.1; seated = c.in_ok-seat-in-Ok.ensures })
     c.lose.ensures c.resume-in-Ok.ensures (c.in_ok-grant.ensures w s.id) (c.rev.ensures ∙ ap (λ (k : KeptClient). k.rev) c.client.ensures.shown)
     (subst (λ y. MakesMarked g.D.Disk.told g.D.Device.failures g.D.Disk.stops_alone alone old.machine (Resume c.in_ok-grant.grant c.rev.result (Some c.lose.new.self.birth) None c.args.now) (replied (λ x. ResumeAnswer (catch_up_of x)) y) c.resume.new.self)
     c.in-Ok.is (λ st k x. let y = c.resume.ensures st k x in (y.0, y.1, y.2, y.4.alone)))
@@ -30,7 +30,7 @@ returns-clause-plays g c = λ alone rs w ks r s.
     let m = c.in_ok-member in
     rw c.refused.ensures
     (refused-turn g.D.Disk.told g.D.Device.failures g.D.Disk.stops_alone alone rs old new w ks c.args.name c.args.now m.member c.lose.new.self c.in_ok-grant.grant c.rev.result c.in-Err.bad r s refl
-    (record { between = c.member.new.self; taken = m.ensures.taken.0; without = m.ensures.taken.1; seated = c.in_ok-seat-in-Err.ensures })
+    (record { between = c.member.new.actors; taken = m.ensures.taken.0; without = m.ensures.taken.1; seated = c.in_ok-seat-in-Err.ensures })
     c.lose.ensures (c.in_ok-grant.ensures w s.id) (c.rev.ensures ∙ ap (λ (k : KeptClient). k.rev) c.client.ensures.shown)
     (subst (λ y. MakesMarked g.D.Disk.told g.D.Device.failures g.D.Disk.stops_alone alone old.machine (Resume c.in_ok-grant.grant c.rev.result (Some c.lose.new.self.birth) None c.args.now) (replied (λ x. ResumeAnswer (catch_up_of x)) y) c.resume.new.self)
     c.in-Err.is (λ st k x. let y = c.resume.ensures st k x in (y.0, y.1, y.2, y.4.alone))))

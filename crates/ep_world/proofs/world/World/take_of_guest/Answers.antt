@@ -1,8 +1,8 @@
 use Rattle.std.proofs.Common.{refl, ap, ◌∙◌, subst, None, Some, arith}
 use Rattle.std.specs.Prelude.{MatchResult}
-use Rattle.ep_world.specs.declared.actors.Actor.TheVariants as actor
-use Rattle.ep_world.specs.Actors.{PutsActor}
-use Rattle.ep_world.specs.Conns.{TakesUp}
+use Rattle.ep_members.specs.declared.actors.Actor.TheVariants as actor
+use Rattle.ep_members.specs.Actors.{PutsActor}
+use Rattle.ep_members.specs.Conns.{TakesUp}
 use Rattle.ep_event.specs.declared.event.Event.TheVariants as told
 use Rattle.ep_world.specs.Failing.{IsFailure}
 use Rattle.ep_world.specs.Taking.{Settles}

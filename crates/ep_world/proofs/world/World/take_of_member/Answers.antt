@@ -1,9 +1,10 @@
 use Rattle.std.proofs.Common.{refl, ap, ◌∙◌, subst, None, Some, arith}
 use Rattle.std.specs.Prelude.{MatchResult}
-use Rattle.ep_world.specs.declared.actors.Actor.TheVariants as actor
-use Rattle.ep_world.specs.declared.member.Member.{Member}
-use Rattle.ep_world.specs.Actors.{PutsActor, member_of}
-use Rattle.ep_world.specs.Conns.{TakesUp, kept_closing_if}
+use Rattle.ep_members.specs.declared.actors.Actor.TheVariants as actor
+use Rattle.ep_members.specs.declared.member.Member.{Member}
+use Rattle.ep_members.specs.Actors.{PutsActor}
+use Rattle.ep_world.specs.Actors.{member_of}
+use Rattle.ep_members.specs.Conns.{TakesUp, kept_closing_if}
 use Rattle.ep_event.specs.declared.event.Event.TheVariants as told
 use Rattle.ep_world.specs.Failing.{IsFailure}
 use Rattle.ep_world.specs.Taking.{Settles}

@@ -1,0 +1,6 @@
+pub mod Conns
+pub mod Telling
+pub mod Members
+pub mod Undoing
+pub mod Actors
+pub mod Lending
