@@ -4,8 +4,8 @@ use Rattle.ep_api.specs.Passes.{IsLacking}
 use Rattle.ep_api.proofs.Halls.{legal_noted, own-noted, turned_away}
 use Rattle.ep_api.proofs.visiting.enter.Goals as goal
 
-pub returns-then-clause-none : goal.returns-then-clause-none
-returns-then-clause-none g c = IsLacking refl refl
+pub returns-then-is_err-clause-none : goal.returns-then-is_err-clause-none
+returns-then-is_err-clause-none g c = IsLacking refl refl
 
 pub returns-in-Ok-clause-waits : goal.returns-in-Ok-clause-waits
 returns-in-Ok-clause-waits g c = record { of = c.in-Ok.ensures.hall; legal = legal_noted _ _ _ _ _ c.in-Ok.ensures.noted c.requires.waits.legal }
