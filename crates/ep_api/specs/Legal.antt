@@ -1,6 +1,5 @@
 -- Passes of the ports, whose histories are legal.
 use Rattle.std.specs.Prelude.{ℕ, ◌≡◌, Bool, List, Option}
-use Rattle.ep_units.specs.Text.{Text}
 use Rattle.ep_outside.specs.Disk.{Contents}
 use Rattle.ep_outside.specs.declared.limits.Limits.{Limits}
 use Rattle.ep_cell.specs.History.{pairs}
@@ -12,6 +11,7 @@ use Rattle.ep_groups.specs.History.{IsLegal}
 use Rattle.ep_history.specs.declared.pad_bad.PadBad.{PadBad}
 use Rattle.ep_pad.specs.declared.entries.PadEntry.{PadEntry}
 use Rattle.ep_pad.specs.declared.entries.PadReply.{PadReply}
+use Rattle.ep_pad.specs.declared.wanted.Wanted.{Wanted}
 use Rattle.ep_pad.specs.Halls.{Answer}
 use Rattle.ep_pad.specs.Held.{Held}
 use Rattle.ep_pad.specs.Histories.{IsLegalFrom}
@@ -22,7 +22,7 @@ pub record Sits {Pass K : Type 0} (is_of : Pass → Type 0) (tells : K → Bool)
   pub legal : IsLegal tells begun (pairs (known pass).seen)
 
 -- a hall of the pads
-pub record Waits {Hall : Type 0} (is_hall : Hall → Type 0) (is_register : List (Text × Answer PadBad) → Type 0) (known : Hall → Known Text (Answer PadBad)) (hall : Hall) : Type 0 where
+pub record Waits {Hall : Type 0} (is_hall : Hall → Type 0) (is_register : List (Wanted × Answer PadBad) → Type 0) (known : Hall → Known Wanted (Answer PadBad)) (hall : Hall) : Type 0 where
   pub of : is_hall hall
   pub legal : is_register (pairs (known hall).seen)
 

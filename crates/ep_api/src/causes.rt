@@ -48,6 +48,7 @@ pub fn of_pass(why: PassBad<PadBad>) -> ApiBad
     match why {
         PassBad::Pads(_) => ApiBad::Pads,
         PassBad::Shelf(_) => ApiBad::StoreFailed,
+        PassBad::Absent => ApiBad::Unknown(Param::PadId),
         PassBad::Pad(why) => of_pad(Param::PadId, why),
         PassBad::NoMemory => ApiBad::NoMemory,
     }

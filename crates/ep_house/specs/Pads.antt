@@ -8,6 +8,7 @@ use Rattle.ep_cell.specs.Passes.{IsFrom}
 use Rattle.ep_house.specs.declared.pads.Pads.{Pads}
 use Rattle.ep_house.specs.declared.pads.Hall.{Hall}
 use Rattle.ep_house.specs.declared.pads.PadPass.{PadPass}
+use Rattle.ep_pad.specs.declared.wanted.Wanted.{Wanted}
 use Rattle.ep_pad.specs.Halls.{Answer}
 use Rattle.ep_house.specs.Told.{told_log}
 use Rattle.ep_house.specs.Named.{shared_id}
@@ -23,7 +24,7 @@ module _ {H P D B E R : Type 0} {s : _} {t : _} {d : _} {e : _} {p : _} where
   IsPassOf pads pass = IsFrom pads.registry pass.second
 
   -- what a hall knows: its number, the names that were asked for with their answers, and how many there are at least
-  abbrev pub hall_known : Hall H P D B E R s t d e p → Known (List ℕ) (Answer B)
+  abbrev pub hall_known : Hall H P D B E R s t d e p → Known Wanted (Answer B)
   hall_known hall = record { number = number hall.pass; seen = told_log shared_id (seen hall.pass); floor = floor hall.pass }
 
   abbrev pub name_of : PadPass H P D B E R s t d e p → List ℕ

@@ -19,6 +19,7 @@ mod pads;
 mod passing;
 mod registry;
 mod replies;
+mod shelved;
 
 pub use directory::{DirPass, Directory};
 pub use ep_pad::PassBad;

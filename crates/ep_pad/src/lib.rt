@@ -15,6 +15,7 @@ mod opening;
 mod pad_port;
 mod pass_bad;
 mod taking;
+mod wanted;
 
 pub use entries::{PadEntry, PadReply};
 pub use ep_history::PadBad;
@@ -22,3 +23,4 @@ pub use ep_pad_state::{CatchUp, Committed, Fetched, PadStatus, Piece, Welcome};
 pub use machine::PadMachine;
 pub use pad_port::PadPort;
 pub use pass_bad::PassBad;
+pub use wanted::Wanted;

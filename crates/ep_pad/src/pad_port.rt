@@ -22,7 +22,8 @@ pub trait PadPort {
     ghost use Rattle.ep_pad.specs.declared.entries.PadReply.{PadReply};
     ghost use Rattle.ep_pad.specs.Histories.{IsLegalFrom};
     ghost use Rattle.ep_pad.specs.Held.{Held};
-    ghost use Rattle.ep_pad.specs.Halls.{Answer, NotesOrNone, cell_in, told_of};
+    ghost use Rattle.ep_pad.specs.Halls.{Answer, IsUnmade, NotesOrNone, cell_in, told_of, want};
+    ghost use Rattle.ep_pad.specs.declared.wanted.Wanted.{Wanted};
     ghost use Rattle.ep_pad.specs.Asking.{Asks};
     ghost use Rattle.ep_pad.specs.Entries.{MayAsk, Suits, entry_of};
 
@@ -41,10 +42,10 @@ pub trait PadPort {
     ghost is_hall: { Self → Self.Hall → Type 0 };
 
     /// The number of a hall, the names that it has seen asked for with their answers, and how many they are at least.
-    ghost hall_known: { Self.Hall → Known (List ℕ) (Answer PadBad) };
+    ghost hall_known: { Self.Hall → Known Wanted (Answer PadBad) };
 
     /// The names that were asked for, with their answers, may be these, in this order, under such limits.
-    ghost is_register: { AnyLimits → List (List ℕ × Answer PadBad) → Type 0 };
+    ghost is_register: { AnyLimits → List (Wanted × Answer PadBad) → Type 0 };
 
     /// The pass is of this port.
     ghost is_of: { Self → Self.Pass → Type 0 };
@@ -74,16 +75,19 @@ pub trait PadPort {
         ensures fresh { IsFresh (hall_known result) }
         ensures legal { is_register (limits_of self.now) (pairs (hall_known result).seen) };
 
-    /// A pass of a pad, which is opened where it isn't open.
+    /// A pass of a pad, which is opened where it isn't open. One that nobody has made is opened only for a caller who makes
+    /// it; for the others nothing is made.
     fn pass<R: Wait>(
         &self,
         rt: &R,
         hall: &mut Self::Hall,
         pad: &PadId,
+        makes: bool,
     ) -> Result<Self::Pass, PassBad<PadBad>>
         requires of { is_hall self.now hall.old }
         ensures hall { is_hall self.now hall.new }
-        ensures noted { NotesOrNone (is_register (limits_of self.now)) (hall_known hall.old) pad.now (told_of cell_of result) (hall_known hall.new) }
+        ensures noted { NotesOrNone (is_register (limits_of self.now)) (hall_known hall.old) (want pad.now makes) (told_of cell_of result) (hall_known hall.new) }
+        ensures unmade { IsUnmade result (pairs (hall_known hall.new).seen) pad.now }
         ensures of { IfOk result (λ pass. is_of self.now pass) }
         ensures name { IfOk result (λ pass. name_of pass ≡ pad.now) }
         ensures fresh { IfOk result (λ pass. IsFresh (known pass)) }

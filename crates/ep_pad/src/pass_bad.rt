@@ -7,6 +7,8 @@ pub enum PassBad<B> {
     Pads(u64),
     /// The shelf failed; so often has it failed.
     Shelf(u64),
+    /// Nobody has made the pad, and who asked doesn't make it.
+    Absent,
     /// The pad's disk was refused. It waits for the next pass.
     Pad(B),
     NoMemory,

@@ -26,7 +26,7 @@ impl<H: Shelf + Drop, P: PadCalls<H::D>, K: Keeper + Drop> PadPort for HouseOf<H
 
     ghost hall_known = { λ hall. pads.hall_known hall };
 
-    ghost is_register = { λ limits names. IsLegal H.failures H.told H.D.failures H.D.told P.refuses limits.pads names };
+    ghost is_register = { λ limits names. IsLegal H.failures H.names H.told H.D.failures H.D.told P.refuses limits.pads names };
 
     ghost is_of = { λ house pass. IsPassOf house.pads pass };
 
@@ -55,8 +55,9 @@ impl<H: Shelf + Drop, P: PadCalls<H::D>, K: Keeper + Drop> PadPort for HouseOf<H
         rt: &R,
         hall: &mut Hall<H, P>,
         pad: &PadId,
+        makes: bool,
     ) -> Result<PadPass<H, P>, PassBad<PadBad>> {
-        self.pads.pass(rt, hall, pad)
+        self.pads.pass(rt, hall, pad, makes)
     }
 
     fn meet(&self, one: &mut PadPass<H, P>, other: &mut PadPass<H, P>) {

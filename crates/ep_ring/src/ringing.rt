@@ -136,11 +136,12 @@ impl<P: PadPort + Drop, E: Ear> PadPort for Ringing<P, E> {
         rt: &R,
         hall: &mut P::Hall,
         pad: &PadId,
+        makes: bool,
     ) -> Result<RingPass<P::Pass>, PassBad<PadBad>> {
         let Ok(name) = Units::from_slice(self.bells.alloc(), pad.as_slice()) else {
             return Err(PassBad::NoMemory);
         };
-        match self.pads.pass(rt, hall, pad) {
+        match self.pads.pass(rt, hall, pad, makes) {
             Ok(pass) => Ok(RingPass { pass, pad: name }),
             Err(bad) => Err(bad),
         }

@@ -16,6 +16,7 @@ use Rattle.ep_history.specs.declared.pad_bad.PadBad.TheVariants as bad
 use Rattle.ep_pad.specs.Asking.{Asks, AsksOrLacks}
 use Rattle.ep_pad.specs.Histories.{IsLegalFrom}
 use Rattle.ep_pad.specs.Held.{Held}
+use Rattle.ep_pad.specs.declared.wanted.Wanted.{Wanted}
 use Rattle.ep_pad.specs.Halls.{Answer, Notes, NotesOrNone}
 use Rattle.ep_pad.specs.declared.entries.PadEntry.{PadEntry}
 use Rattle.ep_pad.specs.declared.entries.PadReply.{PadReply}
@@ -89,7 +90,7 @@ desk_legal Legal u v e kind r (inl asks) legal = asks.legal
 desk_legal Legal u v e kind r (inr (short, same)) legal = subst (λ (w : Known DirEntry DirReply). Legal (pairs w.seen)) (sym same) legal
 
 -- a call of a hall was made
-pub noted : {B : Type 0} (Legal : List (List ℕ × Answer B) → Type 0) (u v : Known (List ℕ) (Answer B)) (name : List ℕ) (r : Answer B) → Notes Legal u name r v → own v ≡ own u ++ (name, r) ∷ []
+pub noted : {B : Type 0} (Legal : List (Wanted × Answer B) → Type 0) (u v : Known Wanted (Answer B)) (name : Wanted) (r : Answer B) → Notes Legal u name r v → own v ≡ own u ++ (name, r) ∷ []
 noted Legal u v name r n = one_more u v name r n.number n.own
 
 -- a history that was legal is legal behind a call, or where memory ran out before it

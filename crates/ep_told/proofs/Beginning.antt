@@ -24,7 +24,7 @@ use Rattle.ep_wire_words.specs.declared.server.ServerMsg.TheVariants as msg
 use Rattle.ep_link.specs.declared.passed.LinkGot.{LinkGot}
 use Rattle.ep_link.specs.declared.passed.LinkGot.TheVariants as got
 use Rattle.ep_session.specs.Output.{said_by, said_of, place_at}
-use Rattle.ep_session.specs.Session.{Did, Heard, Understood, Granted, Entered, Called, Duty, Greet, Begin, Ask, Enter, Login, Rejoin, Hear, Fetch, Say, Outcome, Then, Ends, Runs, begun, greeted, granted, entered, joining, welcomed, welcome_place, rejoined, rejoin_place, none_missed, vars, calls_of, admitted, is_short}
+use Rattle.ep_session.specs.Session.{Did, Heard, Understood, Granted, Entered, Called, Duty, Greet, Begin, Ask, Enter, Login, Rejoin, Hear, Fetch, Say, Outcome, Then, Ends, Runs, begun, greeted, granted, entered, joining, welcomed, welcome_place, rejoined, rejoin_place, none_missed, vars, calls_of, admitted, is_short, wanting}
 use Rattle.ep_session.specs.declared.end.End.{End}
 use Rattle.ep_session.specs.declared.place.Place.{Place}
 use Rattle.ep_session.specs.declared.ready.Ready.{Ready}
@@ -140,7 +140,7 @@ enters pad at grant resume [] out outer one r = λ inside. outside at out outer 
 enters pad at grant resume (did ∷ log) out outer one (inl (to, more, (g, is, same), r)) = go g same
   where
     go : (x : Answer PadBad) → Then to more ≡ entered at grant resume x → IsLaw pad out (did ∷ log)
-    go (Ok id) same = law_passed pad out did (Entered grant.pad g) log is refl (joined pad at grant log out outer resume (one_passed pad did (Entered grant.pad g) log is refl one) (moved to at more (joining grant resume ∷ []) log out same [] r))
+    go (Ok id) same = law_passed pad out did (Entered (wanting grant resume) g) log is refl (joined pad at grant log out outer resume (one_passed pad did (Entered (wanting grant resume) g) log is refl one) (moved to at more (joining grant resume ∷ []) log out same [] r))
     go (Err bad) same = absurd (not_both to at more _ same)
 enters pad at grant resume (did ∷ log) out outer one (inr (to, e, (g, is, same), nil, isout)) = go g same
   where

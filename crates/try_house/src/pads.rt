@@ -57,33 +57,35 @@ fn asked<R: Wait>(
     pads: &MemPads,
     hall: &mut MemHall,
     name: &str,
+    makes: bool,
 ) -> Result<(&'static str, u64), NoMemory>
     requires { IsHallOf pads.now hall.old }
     ensures { IsHallOf pads.now hall.new }
 {
     let name = id(alloc, name)?;
-    Ok(match pads.pass(rt, hall, &name) {
+    Ok(match pads.pass(rt, hall, &name, makes) {
         Ok(mut pass) => match pass.call(rt, ToyEntry::Read) {
             Ok(total) => ("reads", total),
             Err(_) => ("fails", 0),
         },
         Err(PassBad::Pads(count)) => ("pads", count),
         Err(PassBad::Shelf(count)) => ("shelf", count),
+        Err(PassBad::Absent) => ("absent", 0),
         Err(PassBad::Pad(count)) => ("pad", count),
         Err(PassBad::NoMemory) => ("memory", 0),
     })
 }
 
-/// One hall asks for pads, and is answered so.
+/// One hall asks for pads, which it makes where they are absent or doesn't, and is answered so.
 fn ask_all<R: Wait + Abort>(
     rt: &R,
     alloc: Global,
     pads: &MemPads,
-    rows: &[(&str, &str, u64)],
+    rows: &[(&str, bool, &str, u64)],
 ) -> Result<(), NoMemory> {
     let mut hall = pads.hall(rt);
-    'rows: for (name, answer, number) in rows {
-        let (came, count) = asked(rt, alloc, pads, &mut hall, name)?;
+    'rows: for (name, makes, answer, number) in rows {
+        let (came, count) = asked(rt, alloc, pads, &mut hall, name, *makes)?;
         assert!(rt;
             came == *answer && count == *number,
             "pad {name}: {came} {count}"
@@ -98,7 +100,7 @@ fn ask_over<R: Wait + Abort>(
     alloc: Global,
     files: Vec<MemFile>,
     fails: &[u64],
-    rows: &[(&str, &str, u64)],
+    rows: &[(&str, bool, &str, u64)],
 ) -> Result<(), NoMemory> {
     let fails = Vec::from_slice(alloc, fails)?;
     let shelf = MemShelf::new(alloc, files, fails)?;
@@ -110,7 +112,11 @@ fn ask_over<R: Wait + Abort>(
 fn a_stored_pad_comes_back(rt: HostRuntime) -> Result<(), Fail> {
     let alloc = rt.alloc();
     let files = files(alloc, &[("a", "one", &[]), ("b", "three", &[])])?;
-    let rows = [("b", "reads", 5), ("a", "reads", 3), ("b", "reads", 5)];
+    let rows = [
+        ("b", false, "reads", 5),
+        ("a", true, "reads", 3),
+        ("b", false, "reads", 5),
+    ];
     ask_over(&rt, alloc, files, &[], &rows)?;
     Ok(())
 }
@@ -120,14 +126,44 @@ fn refusals_have_their_causes(rt: HostRuntime) -> Result<(), Fail> {
     let alloc = rt.alloc();
     let files = files(alloc, &[("b", "three", &[1])])?;
     let rows = [
-        ("b", "shelf", 1),
-        ("b", "pad", 1),
-        ("b", "reads", 5),
-        ("c", "reads", 0),
-        ("d", "pads", 2),
-        ("b", "reads", 5),
+        ("b", false, "shelf", 1),
+        ("b", false, "pad", 1),
+        ("b", false, "reads", 5),
+        ("c", false, "absent", 0),
+        ("c", true, "reads", 0),
+        ("d", true, "pads", 2),
+        ("d", false, "pads", 2),
+        ("b", true, "reads", 5),
     ];
     ask_over(&rt, alloc, files, &[1], &rows)?;
+    Ok(())
+}
+
+/// More names than any house opens pads.
+const MANY: u64 = 10_001;
+
+/// Whether so many names are told to be absent, and two pads are opened then.
+fn none_takes_a_place<R: Wait>(rt: &R, alloc: Global, pads: &MemPads) -> Result<bool, NoMemory> {
+    let mut hall = pads.hall(rt);
+    'names: for number in 0..MANY {
+        let name = format!(in alloc; "absent{number}")?;
+        if asked(rt, alloc, pads, &mut hall, name.as_str(), false)? != ("absent", 0) {
+            return Ok(false);
+        }
+    }
+    Ok(
+        asked(rt, alloc, pads, &mut hall, "absent7", true)? == ("reads", 0)
+            && asked(rt, alloc, pads, &mut hall, "absent8", true)? == ("reads", 0)
+            && asked(rt, alloc, pads, &mut hall, "absent9", true)? == ("pads", 2),
+    )
+}
+
+#[test]
+fn an_absent_pad_takes_no_place(rt: HostRuntime) -> Result<(), Fail> {
+    let alloc = rt.alloc();
+    let shelf = MemShelf::new(alloc, Vec::new(alloc), Vec::new(alloc))?;
+    let pads: MemPads = Pads::open(alloc, shelf, LIMITS)?;
+    assert!(&rt; none_takes_a_place(&rt, alloc, &pads)?);
     Ok(())
 }
 
@@ -140,7 +176,7 @@ fn pass_of<R: Wait, H: Shelf + Drop, P: PadOver<H::D>>(
 ) -> Result<PadPass<H, P>, NoMemory> {
     let name = id(alloc, name)?;
     let mut hall = pads.hall(rt);
-    match pads.pass(rt, &mut hall, &name) {
+    match pads.pass(rt, &mut hall, &name, true) {
         Ok(pass) => Ok(pass),
         Err(_) => Err(NoMemory),
     }

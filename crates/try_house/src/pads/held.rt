@@ -176,6 +176,10 @@ impl Shelf for HeldShelf {
         Ok(Vec::new(self.alloc))
     }
 
+    fn has(&mut self, _name: &PadId) -> Result<bool, ShelfBad> {
+        Ok(true)
+    }
+
     fn open(&mut self, _name: &PadId) -> Result<HeldDisk, ShelfBad> {
         Ok(HeldDisk {
             calls: 0,
