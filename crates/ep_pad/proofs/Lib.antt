@@ -11,4 +11,3 @@ pub mod Kept
 pub mod Stopping
 pub mod Fronts
 pub mod Histories
-pub mod Halls

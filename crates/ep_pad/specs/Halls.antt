@@ -1,5 +1,5 @@
 -- What a hall knows of the pads of a server: which names were asked for, by who makes an absent pad or doesn't, and which cell each was answered, or why none.
-use Rattle.std.specs.Prelude.{ℕ, ◌≡◌, ◌⊎◌, ◌<◌, Bool, bytes_eq, if◌then◌else◌, List, [], ◌∷◌, ◌++◌, length, Option, Some, None, Result, Ok, Err}
+use Rattle.std.specs.Prelude.{ℕ, ◌≡◌, ◌⊎◌, ◌<◌, Bool, bytes_eq, if◌then◌else◌, IfErr, List, [], ◌∷◌, ◌++◌, length, Option, Some, None, Result, Ok, Err}
 use Rattle.atomic_table.specs.Seated.{TableId}
 use Rattle.ep_cell.specs.History.{Extends, call, calls_by, pairs}
 use Rattle.ep_cell.specs.Passes.{Known}
@@ -31,7 +31,7 @@ cell_in (c ∷ cs) name = if bytes_eq name c.0.name then or_cell c.1 (cell_in cs
 
 -- a pad that is told to be absent was answered no cell before
 abbrev pub IsUnmade : {C B : Type 0} → Result C (PassBad B) → List (Wanted × Answer B) → List ℕ → Type 0
-IsUnmade r calls name = r ≡ Err bad.Absent → cell_in calls name ≡ None
+IsUnmade r calls name = IfErr r (λ why. why ≡ bad.Absent → cell_in calls name ≡ None)
 
 -- A hall's call: what it has seen goes on and ends with this name and its answer, which is the one more of its own, and is legal
 pub record Notes {B : Type 0} (Legal : List (Wanted × Answer B) → Type 0) (v : Known Wanted (Answer B)) (wanted : Wanted) (r : Answer B) (w : Known Wanted (Answer B)) : Type 0 where

@@ -7,7 +7,6 @@ use Rattle.ep_house.specs.Register.{IsLegal, all_told}
 use Rattle.ep_house.specs.Named.{IsWithin, shared_id}
 use Rattle.ep_house.specs.Registry.{register}
 use Rattle.ep_pad.specs.Halls.{Notes, cell_in, want}
-use Rattle.ep_pad.proofs.Halls.{absent_too}
 use Rattle.ep_house.proofs.Halls.{answers_told, answered, hall_leads, holds_last, notes, told, unmade}
 use Rattle.ep_house.proofs.pads.Pads.pass.Goals as goal
 
@@ -83,4 +82,4 @@ returns-in-Err-clause-unmade g c = λ is.
     let asked = want c.in-Ok-Ok.asked c.args.makes in
     ap (λ l. cell_in l c.args.pad.now) (answers_told shared_id (seen c.call.new.pass))
     ∙ (ap (cell_in (all_told shared_id (pairs w.seen))) (sym c.in-Ok-Ok.ensures')
-    ∙ unmade shared_id g.H.Device.failures g.H.Shelf.names g.H.Shelf.told g.H.D.Device.failures g.H.D.Disk.told g.P.PadOver.refuses (register (first c.call.new.pass)) v w asked (Err c.in-Err.error) c.in-Err.ensures.makes c.in-Err.ensures.legal.0 (absent_too c.in-Err.error is))
+    ∙ unmade shared_id g.H.Device.failures g.H.Shelf.names g.H.Shelf.told g.H.D.Device.failures g.H.D.Disk.told g.P.PadOver.refuses (register (first c.call.new.pass)) v w asked (Err c.in-Err.error) c.in-Err.ensures.makes c.in-Err.ensures.legal.0 (ap Err is))
