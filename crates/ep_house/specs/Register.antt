@@ -52,8 +52,8 @@ abbrev pub StillWaits : {D : Type 0} → Option (Waits D) → Waits D → Type 0
 StillWaits None w = Unit {0}
 StillWaits (Some old) w = StaysIn old w
 
--- what was to be opened gets its place in the cell that is answered; where memory ran out, it waits
-abbrev pub Places : {H D B : Type 0} → Register H D → List ℕ → Waits D → Answer B → Register H D → Type 0
+-- what was to get a place gets it in the cell that is answered; where memory ran out, it waits
+abbrev pub Places : {H D : Type 0} → Register H D → List ℕ → Waits D → Answer → Register H D → Type 0
 Places s name w (Ok id) t = (t.limit ≡ s.limit) × (t.shelf ≡ s.shelf) × (t.cells ≡ s.cells ++ (name, id) ∷ []) × (t.waiting ≡ s.waiting) × IsIn w id
 Places {D = D} s name w (Err bad.NoMemory) t = (t.limit ≡ s.limit) × (t.shelf ≡ s.shelf) × (t.cells ≡ s.cells) × ((x : Waits D) × (t.waiting ≡ s.waiting ++ (name, x) ∷ []) × StaysIn w x)
 Places s name w (Err _) t = ⊥
@@ -67,18 +67,18 @@ module _ {H D : Type 0} (failed : H → ℕ) (names : H → Option (List (List �
     pub spares : wanted.makes ≡ false → (names t.shelf ≡ names s.shelf) ⊎ IsAmong (names s.shelf) wanted.name true
 
 module _ {H D : Type 0} (told : H → List ℕ → Option Contents) (disk_failed : D → ℕ) (disk_told : D → Option Contents) where
-  -- what is opened is what waits for the name, or else the disk that the shelf gives, which has not failed
+  -- what gets a place is what waits for the name, or else the disk that the shelf gives, which has not failed
   abbrev pub Comes : Option (Waits D) → H → List ℕ → Waits D → Type 0
   Comes (Some w) shelf name x = x ≡ w
   Comes None shelf name (on_disk d) = (disk_failed d ≡ 0) × Holds (told shelf name) (disk_told d)
   Comes None shelf name (in_cell c) = ⊥
 
-module _ {H D B : Type 0} (failed : H → ℕ) (names : H → Option (List (List ℕ))) (told : H → List ℕ → Option Contents) (disk_failed : D → ℕ) (disk_told : D → Option Contents) (refuses : D → D → B → Type 0) where
-  -- the pad is open already
+module _ {H D : Type 0} (failed : H → ℕ) (names : H → Option (List (List ℕ))) (told : H → List ℕ → Option Contents) (disk_failed : D → ℕ) (disk_told : D → Option Contents) where
+  -- the pad has a place already
   abbrev pub IsOpen : Register H D → List ℕ → TableId → Register H D → Type 0
   IsOpen s name id t = (found_in s.cells name ≡ Some id) × (t ≡ s)
 
-  -- the pad was opened, in this cell
+  -- the pad got its place, in this cell
   pub record Opens (s : Register H D) (wanted : Wanted) (id : TableId) (t : Register H D) : Type 0 where
     pub may : MayOpen s wanted.name
     pub keeps : Keeps failed names told s t wanted
@@ -111,18 +111,7 @@ module _ {H D B : Type 0} (failed : H → ℕ) (names : H → Option (List (List
     pub cells : t.cells ≡ s.cells
     pub waiting : t.waiting ≡ s.waiting
 
-  -- a disk was refused, and waits
-  pub record Refuses (s : Register H D) (wanted : Wanted) (why : B) (t : Register H D) : Type 0 where
-    pub may : MayOpen s wanted.name
-    pub keeps : Keeps failed names told s t wanted
-    pub disk : D
-    pub comes : Comes told disk_failed disk_told (found_in s.waiting wanted.name) s.shelf wanted.name (on_disk disk)
-    pub back : D
-    pub cause : refuses disk back why
-    pub cells : t.cells ≡ s.cells
-    pub waiting : t.waiting ≡ without s.waiting wanted.name ++ (wanted.name, on_disk back) ∷ []
-
-  -- memory ran out: what was to be opened waits, or no disk was taken off the shelf
+  -- memory ran out: what was to get a place waits, or no disk was taken off the shelf
   pub record Lacks (s : Register H D) (wanted : Wanted) (t : Register H D) : Type 0 where
     pub room : found_in s.cells wanted.name ≡ None → length s.cells < s.limit
     pub keeps : Keeps failed names told s t wanted
@@ -130,16 +119,15 @@ module _ {H D B : Type 0} (failed : H → ℕ) (names : H → Option (List (List
     pub waiting : ((t.waiting ≡ s.waiting) × (told t.shelf wanted.name ≡ told s.shelf wanted.name)) ⊎ ((w : Waits D) × (t.waiting ≡ without s.waiting wanted.name ++ (wanted.name, w) ∷ []) × StillWaits (found_in s.waiting wanted.name) w)
 
   -- a call with this answer leads from one state to the next
-  abbrev pub Step : Register H D → Wanted → Answer B → Register H D → Type 0
+  abbrev pub Step : Register H D → Wanted → Answer → Register H D → Type 0
   Step s w (Ok id) t = IsOpen s w.name id t ⊎ Opens s w id t
   Step s w (Err (bad.Pads n)) t = (t ≡ s) × (found_in s.cells w.name ≡ None) × (n ≡ length s.cells) × (n ≡ s.limit)
   Step s w (Err (bad.Shelf n)) t = Fails s w n t
   Step s w (Err bad.Absent) t = IsAbsent s w t
-  Step s w (Err (bad.Pad why)) t = Refuses s w why t
   Step s w (Err bad.NoMemory) t = Lacks s w t
 
   -- these calls lead from the first state to the last
-  abbrev pub Runs : Register H D → List (Wanted × Answer B) → Register H D → Type 0
+  abbrev pub Runs : Register H D → List (Wanted × Answer) → Register H D → Type 0
   Runs first [] last = first ≡ last
   Runs first (c ∷ cs) last = (mid : Register H D) × Step first c.0 c.1 mid × Runs mid cs last
 
@@ -149,16 +137,16 @@ module _ {H D B : Type 0} (failed : H → ℕ) (names : H → Option (List (List
     pub waiting : first.waiting ≡ []
 
   -- a register that was the first as it began is the last: it has made these calls in between
-  abbrev pub Stands : Register H D → Register H D → List (Wanted × Answer B) → Type 0
+  abbrev pub Stands : Register H D → Register H D → List (Wanted × Answer) → Type 0
   Stands first last h = IsFirst first × Runs first h last
 
   -- of a register that began so, each answer is one that the calls before it allow
-  abbrev pub IsLegalFrom : Register H D → List (Wanted × Answer B) → Type 0
+  abbrev pub IsLegalFrom : Register H D → List (Wanted × Answer) → Type 0
   IsLegalFrom first h = (last : Register H D) × Stands first last h
 
   -- and of one under which so many pads may be open
-  abbrev pub IsLegal : ℕ → List (Wanted × Answer B) → Type 0
+  abbrev pub IsLegal : ℕ → List (Wanted × Answer) → Type 0
   IsLegal limit h = (first : Register H D) × (first.limit ≡ limit) × IsLegalFrom first h
 
-abbrev pub all_told : {C B : Type 0} → (C → TableId) → List (Wanted × Result C (PassBad B)) → List (Wanted × Answer B)
+abbrev pub all_told : {C : Type 0} → (C → TableId) → List (Wanted × Result C PassBad) → List (Wanted × Answer)
 all_told id h = map (λ c. (c.0, told_of id c.1)) h

@@ -18,7 +18,7 @@ use std::alloc::Global;
 use std::sync::Wait;
 
 impl<H: Shelf + Drop, P: PadOver<H::D>> Pads<H, P> {
-    /// No pad is open.
+    /// No pad has a place.
     pub fn open(alloc: Global, shelf: H, limits: Limits) -> Result<Pads<H, P>, NoMemory>
         ensures limits { IfOk result (λ pads. limits_of pads ≡ limits) }
     {
@@ -42,24 +42,24 @@ impl<H: Shelf + Drop, P: PadOver<H::D>> Pads<H, P> {
     pub fn hall<R: Wait>(&self, rt: &R) -> Hall<H, P>
         ensures of { IsHallOf self.now result }
         ensures fresh { IsFresh (hall_known result) }
-        ensures legal { IsLegal H.failures H.names H.told H.D.failures H.D.told P.refuses (limits_of self.now).pads (pairs (hall_known result).seen) }
+        ensures legal { IsLegal H.failures H.names H.told H.D.failures H.D.told (limits_of self.now).pads (pairs (hall_known result).seen) }
     {
         Hall {
             pass: self.registry.new_pass(rt),
         }
     }
 
-    /// A pass of a pad, which is opened where it isn't open. One that nobody has made is opened only for who makes it.
+    /// A pass of a pad, which is opened by its first call. One that nobody has made gets a place only for who makes it.
     pub fn pass<R: Wait>(
         &self,
         rt: &R,
         hall: &mut Hall<H, P>,
         pad: &PadId,
         makes: bool,
-    ) -> Result<PadPass<H, P>, PassBad<P::Bad>>
+    ) -> Result<PadPass<H, P>, PassBad>
         requires of { IsHallOf self.now hall.old }
         ensures hall { IsHallOf self.now hall.new }
-        ensures noted { NotesOrNone (IsLegal H.failures H.names H.told H.D.failures H.D.told P.refuses (limits_of self.now).pads) (hall_known hall.old) (want pad.now makes) (told_of cell_of result) (hall_known hall.new) }
+        ensures noted { NotesOrNone (IsLegal H.failures H.names H.told H.D.failures H.D.told (limits_of self.now).pads) (hall_known hall.old) (want pad.now makes) (told_of cell_of result) (hall_known hall.new) }
         ensures unmade { IsUnmade result (pairs (hall_known hall.new).seen) pad.now }
         ensures of { IfOk result (λ pass. IsPassOf self.now pass) }
         ensures name { IfOk result (λ pass. name_of pass ≡ pad.now) }

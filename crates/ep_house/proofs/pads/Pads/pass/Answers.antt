@@ -17,7 +17,7 @@ returns-in-Err-clause-noted g c =
     let v = known c.meet.new.one in
     let w = known c.call.new.pass in
     let asked = want c.in-Ok-Ok.asked c.args.makes in
-    let Legal = IsLegal g.H.Device.failures g.H.Shelf.names g.H.Shelf.told g.H.D.Device.failures g.H.D.Disk.told g.P.PadOver.refuses c.args.self.now.limits.pads in
+    let Legal = IsLegal g.H.Device.failures g.H.Shelf.names g.H.Shelf.told g.H.D.Device.failures g.H.D.Disk.told c.args.self.now.limits.pads in
     let within = ap (λ r. r.limits.pads) (c.call.ensures.first ∙ (c.meet.ensures.first.0 ∙ c.requires.of.1)) ∙ ap (λ l. l.pads) c.args.self.now.begun in
     inl (subst (λ (e : List ℕ). Notes Legal (told shared_id u) (want e c.args.makes) (Err c.in-Err.error) (told shared_id w)) c.in-Ok-Ok.ensures'
     (notes shared_id u v w asked (Err c.in-Err.error) c.in-Err.ensures.makes Legal w refl refl m.begins_one m.number_one m.own_one m.floor_one (register (first c.call.new.pass), within, c.in-Err.ensures.legal.0)))
@@ -30,7 +30,7 @@ returns-clause-noted g c =
     let v = known c.meet.new.one in
     let w = known c.call.new.pass in
     let asked = want c.in-Ok-Ok.asked c.args.makes in
-    let Legal = IsLegal g.H.Device.failures g.H.Shelf.names g.H.Shelf.told g.H.D.Device.failures g.H.D.Disk.told g.P.PadOver.refuses c.args.self.now.limits.pads in
+    let Legal = IsLegal g.H.Device.failures g.H.Shelf.names g.H.Shelf.told g.H.D.Device.failures g.H.D.Disk.told c.args.self.now.limits.pads in
     let within = ap (λ r. r.limits.pads) (c.call.ensures.first ∙ (c.meet.ensures.first.0 ∙ c.requires.of.1)) ∙ ap (λ l. l.pads) c.args.self.now.begun in
     let lead = n.same ∙ (n.longer ∙ hall_leads shared_id u v w asked (Ok c.in-Ok.cell) c.in-Ok.ensures.makes (seen c.meet.new.other) m.same) in
     inl (subst (λ (e : List ℕ). Notes Legal (told shared_id u) (want e c.args.makes) (Ok (shared_id c.in-Ok.cell)) (told shared_id (known c.meet-2.new.other))) c.in-Ok-Ok.ensures'
@@ -57,7 +57,7 @@ returns-clause-one g c =
     ap (λ l. cell_in l c.args.pad.now) (answers_told shared_id (seen c.meet-2.new.other))
     ∙ (ap (λ l. cell_in (all_told shared_id (pairs l)) c.args.pad.now) lead
     ∙ (ap (cell_in (all_told shared_id (pairs w.seen))) (sym c.in-Ok-Ok.ensures')
-    ∙ answered shared_id g.H.Device.failures g.H.Shelf.names g.H.Shelf.told g.H.D.Device.failures g.H.D.Disk.told g.P.PadOver.refuses (register (first c.call.new.pass)) v w asked c.in-Ok.cell c.in-Ok.ensures.makes c.in-Ok.ensures.legal.0))
+    ∙ answered shared_id g.H.Device.failures g.H.Shelf.names g.H.Shelf.told g.H.D.Device.failures g.H.D.Disk.told (register (first c.call.new.pass)) v w asked c.in-Ok.cell c.in-Ok.ensures.makes c.in-Ok.ensures.legal.0))
 
 pub invariant_of-result : goal.invariant_of-result
 invariant_of-result g c =
@@ -72,7 +72,7 @@ invariant_of-result g c =
       same = (c.new_pass-pass.ensures.of ∙ ap id_of c.deref.ensures, c.new_pass-pass.ensures.first ∙ ap first_of c.deref.ensures);
       found = ap (λ l. cell_in (all_told shared_id (pairs l)) c.in-Ok-Ok.name) lead
           ∙ (ap (cell_in (all_told shared_id (pairs w.seen))) (c.in-Ok-Ok.ensures ∙ sym c.in-Ok-Ok.ensures')
-          ∙ answered shared_id g.H.Device.failures g.H.Shelf.names g.H.Shelf.told g.H.D.Device.failures g.H.D.Disk.told g.P.PadOver.refuses (register (first c.call.new.pass)) v w asked c.in-Ok.cell c.in-Ok.ensures.makes c.in-Ok.ensures.legal.0);
+          ∙ answered shared_id g.H.Device.failures g.H.Shelf.names g.H.Shelf.told g.H.D.Device.failures g.H.D.Disk.told (register (first c.call.new.pass)) v w asked c.in-Ok.cell c.in-Ok.ensures.makes c.in-Ok.ensures.legal.0);
     }
 
 pub returns-in-Err-clause-unmade : goal.returns-in-Err-clause-unmade
@@ -82,4 +82,4 @@ returns-in-Err-clause-unmade g c = λ is.
     let asked = want c.in-Ok-Ok.asked c.args.makes in
     ap (λ l. cell_in l c.args.pad.now) (answers_told shared_id (seen c.call.new.pass))
     ∙ (ap (cell_in (all_told shared_id (pairs w.seen))) (sym c.in-Ok-Ok.ensures')
-    ∙ unmade shared_id g.H.Device.failures g.H.Shelf.names g.H.Shelf.told g.H.D.Device.failures g.H.D.Disk.told g.P.PadOver.refuses (register (first c.call.new.pass)) v w asked (Err c.in-Err.error) c.in-Err.ensures.makes c.in-Err.ensures.legal.0 (ap Err is))
+    ∙ unmade shared_id g.H.Device.failures g.H.Shelf.names g.H.Shelf.told g.H.D.Device.failures g.H.D.Disk.told (register (first c.call.new.pass)) v w asked (Err c.in-Err.error) c.in-Err.ensures.makes c.in-Err.ensures.legal.0 (ap Err is))
