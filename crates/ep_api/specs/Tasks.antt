@@ -23,7 +23,7 @@ pub data Did : Type 0 where
   -- the directory was asked, and replied
   Asked : DirEntry → DirReply → Did
   -- a pass that was asked for was not given
-  Refused : Wanted → PassBad PadBad → Did
+  Refused : Wanted → PassBad → Did
   -- a pass that was asked for was given, and made these calls
   Stayed : Wanted → TableId → List (PadEntry × PadReply) → Did
 
@@ -69,7 +69,7 @@ abbrev pub ask : {A : Type 0} → DirEntry → (Result A DirBad → DirReply) �
 ask e kind = IsAsk e kind
 
 -- what comes of a pass that is refused: that nobody has made the pad is judged as an absent pad's refusal
-abbrev pub turned : {A : Type 0} → (Result A PadBad → Result A ApiBad) → PassBad PadBad → Result A ApiBad
+abbrev pub turned : {A : Type 0} → (Result A PadBad → Result A ApiBad) → PassBad → Result A ApiBad
 turned judge pass.Absent = judge (Err Gone)
 turned judge why = Err (of_pass why)
 
@@ -77,7 +77,7 @@ turned judge why = Err (of_pass why)
 pub data IsVisit {A : Type 0} (wanted : Wanted) (e : PadEntry) (kind : Result A PadBad → PadReply) (judge : Result A PadBad → Result A ApiBad) (log : List Did) (r : Result A ApiBad) : Type 0 where
   Answers : (cell : TableId) (x : Result A PadBad) → log ≡ Stayed wanted cell ((e, kind x) ∷ []) ∷ [] → r ≡ judge x → IsVisit wanted e kind judge log r
   -- no pass is given
-  IsRefused : (why : PassBad PadBad) → log ≡ Refused wanted why ∷ [] → r ≡ turned judge why → IsVisit wanted e kind judge log r
+  IsRefused : (why : PassBad) → log ≡ Refused wanted why ∷ [] → r ≡ turned judge why → IsVisit wanted e kind judge log r
   -- no memory is found for the call
   IsIdle : (cell : TableId) → log ≡ Stayed wanted cell [] ∷ [] → r ≡ Err NoMemory → IsVisit wanted e kind judge log r
   -- no memory is found for the pass

@@ -23,7 +23,7 @@ fn enter<R: Wait, P: PadPort>(
     taken: &mut Vec<P::Pass>,
     id: &PadId,
     makes: bool,
-) -> Result<P::Pass, PassBad<PadBad>>
+) -> Result<P::Pass, PassBad>
     requires waits { Waits (P.is_hall pads.now) (P.is_register (P.limits_of pads.now)) P.hall_known hall.old }
     ensures waits { Waits (P.is_hall pads.now) (P.is_register (P.limits_of pads.now)) P.hall_known hall.new }
     ensures stands { IfOk result (Stands (P.is_of pads.now) (P.limits_of pads.now) P.Store.told P.Store.failures P.begun P.known) }
@@ -120,7 +120,7 @@ fn or_absent(answer: Result<(), PadBad>) -> Result<(), ApiBad>
 }
 
 /// A pass that is not given, where an absent pad is passed over.
-fn unless_absent(why: PassBad<PadBad>) -> Result<(), ApiBad>
+fn unless_absent(why: PassBad) -> Result<(), ApiBad>
     ensures { result ≡ turned or_absent why }
 {
     match why {

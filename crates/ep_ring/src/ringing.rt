@@ -6,7 +6,7 @@ use crate::bell::NOBODY;
 use crate::bells::Bells;
 use ep_link::Ear;
 use ep_outside::Limits;
-use ep_pad::{PadBad, PadEntry, PadPort, PadReply, PassBad};
+use ep_pad::{PadEntry, PadPort, PadReply, PassBad};
 use ep_units::{NoMemory, PadId, Units};
 use std::alloc::Global;
 use std::sync::{Arc, Mutex, Wait};
@@ -137,7 +137,7 @@ impl<P: PadPort + Drop, E: Ear> PadPort for Ringing<P, E> {
         hall: &mut P::Hall,
         pad: &PadId,
         makes: bool,
-    ) -> Result<RingPass<P::Pass>, PassBad<PadBad>> {
+    ) -> Result<RingPass<P::Pass>, PassBad> {
         let Ok(name) = Units::from_slice(self.bells.alloc(), pad.as_slice()) else {
             return Err(PassBad::NoMemory);
         };

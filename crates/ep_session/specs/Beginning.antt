@@ -2,7 +2,6 @@
 use Rattle.std.specs.Prelude.{ℕ, ◌≡◌, ◌⊎◌, List, [], ◌∷◌, Option, Some, None, Result, Ok, Err}
 use Rattle.atomic_table.specs.Seated.{TableId}
 use Rattle.ep_units.specs.declared.grant.Grant.{Grant}
-use Rattle.ep_history.specs.declared.pad_bad.PadBad.{PadBad}
 use Rattle.ep_dir_records.specs.declared.dir_bad.DirBad.{DirBad}
 use Rattle.ep_dir_records.specs.declared.ids.Drawn.{Drawn}
 use Rattle.ep_groups.specs.declared.entries.DirReply.TheVariants as dirs
@@ -37,7 +36,7 @@ Joins grant resume (c ∷ calls) = IsJoin grant resume c.0
 abbrev pub IsHoused : Grant → Option Resume → List Did → Outcome → Type 0
 IsHoused grant resume log out =
     ((hall_of log ≡ []) × (calls_of log ≡ []))
-    ⊎ (((bad : PassBad PadBad) × (hall_of log ≡ (wanting grant resume, Err bad) ∷ []) × (calls_of log ≡ []) × (out ≡ Ends nowhere (end_of_pass grant resume bad)))
+    ⊎ (((bad : PassBad) × (hall_of log ≡ (wanting grant resume, Err bad) ∷ []) × (calls_of log ≡ []) × (out ≡ Ends nowhere (end_of_pass grant resume bad)))
     ⊎ ((id : TableId) × (hall_of log ≡ (wanting grant resume, Ok id) ∷ []) × Joins grant resume (calls_of log)))
 
 -- the directory was not asked; or it was asked once, by the first message, and refused, and the session ended so; or it gave a grant

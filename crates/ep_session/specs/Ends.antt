@@ -66,11 +66,10 @@ absent_fault grant None = bad.Denied 4
 absent_fault grant (Some again) = if is_other grant.author again.author then bad.Denied 7 else bad.Gone
 
 -- the end that a refused pass brings
-abbrev pub end_of_pass : Grant → Option Resume → PassBad PadBad → End
+abbrev pub end_of_pass : Grant → Option Resume → PassBad → End
 end_of_pass grant resume (pass.Pads n) = ends.Pads n
 end_of_pass grant resume (pass.Shelf count) = ends.ShelfFault count
 end_of_pass grant resume pass.Absent = end_of (absent_fault grant resume)
-end_of_pass grant resume (pass.Pad b) = end_of b
 end_of_pass grant resume pass.NoMemory = ends.NoMemory
 
 -- what the closing says, where it has one

@@ -4,7 +4,6 @@ use Rattle.atomic_table.specs.Seated.{TableId}
 use Rattle.ep_cell.specs.declared.view.Call.{Call}
 use Rattle.ep_cell.specs.History.{calls_by, pairs}
 use Rattle.ep_cell.specs.Passes.{Known}
-use Rattle.ep_history.specs.declared.pad_bad.PadBad.{PadBad}
 use Rattle.ep_pad.specs.declared.wanted.Wanted.{Wanted}
 use Rattle.ep_pad.specs.Halls.{Answer, want}
 
@@ -26,7 +25,7 @@ own_of known None = []
 own_of known (Some p) = own (known p)
 
 -- one pass was asked for, of this name, and was given, of this cell
-abbrev pub IsGiven : List (Wanted × Answer PadBad) → List ℕ → TableId → Type 0
+abbrev pub IsGiven : List (Wanted × Answer) → List ℕ → TableId → Type 0
 IsGiven calls name cell = (makes : Bool) × (calls ≡ (want name makes, Ok cell) ∷ [])
 
 -- where both are there

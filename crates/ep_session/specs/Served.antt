@@ -47,7 +47,7 @@ abbrev pub session_of : Place → Option Session
 session_of at = if at.inside then Some at.me else None
 
 -- a whole session: how it came to what it came to, its closing, and its leaving
-pub record Served (shows : ℕ → Type 0) (sent0 sent1 : Option (List Passed)) (drawn : Drawn) (desk : List (DirEntry × DirReply)) (hall : List (Wanted × Answer PadBad)) (made : List (PadEntry × PadReply)) (session : Option Session) (start cursor taken : ℕ) (end : End) : Type 0 where
+pub record Served (shows : ℕ → Type 0) (sent0 sent1 : Option (List Passed)) (drawn : Drawn) (desk : List (DirEntry × DirReply)) (hall : List (Wanted × Answer)) (made : List (PadEntry × PadReply)) (session : Option Session) (start cursor taken : ℕ) (end : End) : Type 0 where
   pub at : Place
   pub reason : End
   pub sent : Option (List Passed)

@@ -57,14 +57,13 @@ fn absent_fault(grant: &Grant, resume: &Option<Resume>) -> PadBad
 }
 
 /// The end that a refused pass brings.
-pub fn end_of_pass(grant: &Grant, resume: &Option<Resume>, bad: PassBad<PadBad>) -> End
+pub fn end_of_pass(grant: &Grant, resume: &Option<Resume>, bad: PassBad) -> End
     ensures { result ≡ end_of_pass grant.now resume.now bad }
 {
     match bad {
         PassBad::Pads(n) => End::Pads(n),
         PassBad::Shelf(count) => End::ShelfFault(count),
         PassBad::Absent => End::from(absent_fault(grant, resume)),
-        PassBad::Pad(bad) => End::from(bad),
         PassBad::NoMemory => End::NoMemory,
     }
 }

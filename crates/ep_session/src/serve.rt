@@ -3,7 +3,7 @@
 ghost use Rattle.std.specs.Prelude.{◌≡◌, ◌≤◌, [], ◌∷◌, None, IfSome};
 ghost use Rattle.ep_cell.specs.History.{pairs};
 ghost use Rattle.ep_groups.specs.History.{IsLegal};
-ghost use Rattle.ep_pad.specs.Histories.{IsLegalFrom};
+ghost use Rattle.ep_pad.specs.Lazy.{IsLegalFrom};
 ghost use Rattle.ep_session.specs.Passing.{IsGiven, own, own_of};
 ghost use Rattle.ep_session.specs.Session.{Ask, Enter, Fetch, Hear, joining};
 ghost use Rattle.ep_session.specs.Says.{Came, Done, Ended, IsCaused, IsFault};

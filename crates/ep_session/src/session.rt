@@ -3,7 +3,7 @@
 ghost use Rattle.std.specs.Prelude.{◌≡◌, ◌≤◌, ◌&&◌, [], ◌∷◌, None, false, true, IfSome};
 ghost use Rattle.ep_cell.specs.History.{pairs};
 ghost use Rattle.ep_groups.specs.History.{IsLegal};
-ghost use Rattle.ep_pad.specs.Histories.{IsLegalFrom};
+ghost use Rattle.ep_pad.specs.Lazy.{IsLegalFrom};
 ghost use Rattle.ep_dir_records.specs.declared.ids.Drawn.{Drawn as AnyDrawn};
 ghost use Rattle.ep_session.specs.Drawing.{DrawsAll};
 ghost use Rattle.ep_session.specs.Ends.{closing_of, leaves};
