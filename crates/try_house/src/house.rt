@@ -302,7 +302,6 @@ fn refused<R: Wait, P: PadPort>(
         Err(PassBad::Pads(count)) => ("pads", count),
         Err(PassBad::Shelf(count)) => ("shelf", count),
         Err(PassBad::Absent) => ("absent", 0),
-        Err(PassBad::Pad(_)) => ("pad", 0),
         Err(PassBad::NoMemory) => ("memory", 0),
     })
 }

@@ -10,7 +10,7 @@ use crate::given::{LIMITS, id};
 use ep_disk_mem::{MemDisk, MemFile, MemShelf};
 use ep_house::{Hall, PadOver, PadPass, Pads};
 use ep_outside::Shelf;
-use ep_pad::{PadBad, PadEntry, PadMachine, PadReply, PassBad};
+use ep_pad::{LazyPad, PadBad, PadEntry, PadReply, PassBad};
 use ep_units::{NoMemory, Units};
 use held::{Gate, HeldDisk, HeldShelf, waits};
 use std::alloc::Global;
@@ -19,7 +19,7 @@ use std::sync::atomic::Ordering;
 use std::sync::{Arc, Wait};
 use std::test::Fail;
 use std::thread::join;
-use toy::{Toy, ToyEntry};
+use toy::{Toy, ToyBad, ToyEntry};
 
 type MemPads = Pads<MemShelf, Toy<MemDisk>>;
 
@@ -29,9 +29,9 @@ type HeldPads = Pads<HeldShelf, Toy<HeldDisk>>;
 
 type HeldPass = PadPass<HeldShelf, Toy<HeldDisk>>;
 
-type FilePads = Pads<MemShelf, PadMachine<MemDisk>>;
+type FilePads = Pads<MemShelf, LazyPad<MemDisk>>;
 
-type FilePass = PadPass<MemShelf, PadMachine<MemDisk>>;
+type FilePass = PadPass<MemShelf, LazyPad<MemDisk>>;
 
 fn file(alloc: Global, name: &str, text: &str, fails: &[u64]) -> Result<MemFile, NoMemory> {
     let name = id(alloc, name)?;
@@ -66,12 +66,12 @@ fn asked<R: Wait>(
     Ok(match pads.pass(rt, hall, &name, makes) {
         Ok(mut pass) => match pass.call(rt, ToyEntry::Read) {
             Ok(total) => ("reads", total),
-            Err(_) => ("fails", 0),
+            Err(ToyBad::Store(count)) => ("fails", count),
+            Err(ToyBad::NoMemory) => ("memory", 0),
         },
         Err(PassBad::Pads(count)) => ("pads", count),
         Err(PassBad::Shelf(count)) => ("shelf", count),
         Err(PassBad::Absent) => ("absent", 0),
-        Err(PassBad::Pad(count)) => ("pad", count),
         Err(PassBad::NoMemory) => ("memory", 0),
     })
 }
@@ -127,7 +127,7 @@ fn refusals_have_their_causes(rt: HostRuntime) -> Result<(), Fail> {
     let files = files(alloc, &[("b", "three", &[1])])?;
     let rows = [
         ("b", false, "shelf", 1),
-        ("b", false, "pad", 1),
+        ("b", false, "fails", 1),
         ("b", false, "reads", 5),
         ("c", false, "absent", 0),
         ("c", true, "reads", 0),
@@ -220,6 +220,42 @@ fn two_pads_at_once(rt: HostRuntime) -> Result<(), Fail> {
     assert!(&rt;
         !gate.late.load(Ordering::SeqCst),
         "pad A's sync waited too long"
+    );
+    Ok(())
+}
+
+/// Whether who asks for a pad adds to it.
+fn enters<R: Wait>(rt: &R, alloc: Global, pads: &HeldPads, name: &str) -> bool {
+    match pass_of(rt, alloc, pads, name) {
+        Ok(mut pass) => adds(rt, &mut pass, 1, 1),
+        Err(_) => false,
+    }
+}
+
+/// Waits until the first disk is in its opening, enters the second pad, and lets the first go on.
+fn enters_meanwhile<R: Wait>(rt: &R, alloc: Global, pads: &HeldPads, gate: &Gate) -> bool {
+    let has_begun = waits(&gate.begun);
+    let enters = enters(rt, alloc, pads, "b");
+    gate.opened.store(true, Ordering::SeqCst);
+    has_begun && enters
+}
+
+/// Pad A's disk holds its opening until pad B, which nobody asked for before, has answered.
+#[test]
+fn an_opening_holds_nobody_else(rt: HostRuntime) -> Result<(), Fail> {
+    let alloc = rt.alloc();
+    let gate = Arc::new(alloc, Gate::new())?;
+    gate.armed.store(true, Ordering::SeqCst);
+    let pads = held_pads(alloc, &gate)?;
+    let (first, second) = join(
+        &rt,
+        || enters(&rt, alloc, &pads, "a"),
+        || enters_meanwhile(&rt, alloc, &pads, &gate),
+    );
+    assert!(&rt; first && second);
+    assert!(&rt;
+        !gate.late.load(Ordering::SeqCst),
+        "pad A's opening waited too long"
     );
     Ok(())
 }
