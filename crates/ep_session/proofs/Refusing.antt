@@ -1,9 +1,9 @@
 -- What is refused where no pad is.
-use Rattle.std.proofs.Common.{◌≡◌, ◌∙◌, Bool, true, false, List, [], ◌∷◌, ◌++◌, Option, Some, None, refl}
+use Rattle.std.proofs.Common.{◌≡◌, Bool, true, false, List, [], ◌∷◌, ◌++◌, Option, Some, None, refl}
 use Rattle.std.specs.Prelude.{not, ◌&&◌, nat_le, length, if◌then◌else◌}
 use Rattle.ep_units.specs.declared.grant.Grant.{Grant}
 use Rattle.ep_history.specs.Pad.{PadState, live_count, has_live}
-use Rattle.ep_history.specs.Refusals.{fault_if, first_fault, full_faults, is_other, is_stranger, login_fault, makes_none, resume_fault}
+use Rattle.ep_history.specs.Refusals.{fault_if, first_fault, full_faults, is_other, login_fault, makes_none, resume_fault}
 use Rattle.ep_history.specs.declared.pad_bad.PadBad.{PadBad}
 use Rattle.ep_history.specs.declared.pad_bad.PadBad.TheVariants.{Denied, Full, Gone}
 use Rattle.ep_wire_words.specs.declared.client.Resume.{Resume}

@@ -1,5 +1,5 @@
 -- Calls that were refused before a pad was opened told nobody anything.
-use Rattle.std.proofs.Common.{◌≡◌, ℕ, List, [], ◌∷◌, ◌++◌, Bool, true, false, Option, sym, subst, refl}
+use Rattle.std.proofs.Common.{ℕ, List, [], ◌∷◌, ◌++◌, Bool, true, false, Option, sym, subst}
 use Rattle.std.specs.Prelude.{◌==◌, if◌then◌else◌, Err}
 use Rattle.ep_units.specs.declared.session.Session.{Session}
 use Rattle.ep_outside.specs.Disk.{Contents}
@@ -11,7 +11,7 @@ use Rattle.ep_history.specs.Entries.Entry.{Accept, Create, Delete, Fetch, Leave,
 use Rattle.ep_history.specs.History.{Birth}
 use Rattle.ep_history.specs.declared.pad_bad.PadBad.{PadBad}
 use Rattle.ep_fetches.specs.Told.{AreTold, IsTold}
-use Rattle.ep_pad.specs.Entries.{entry_of, reply_of}
+use Rattle.ep_pad.specs.Entries.{entry_of}
 use Rattle.ep_pad.specs.Histories.{calls_of as all_calls}
 use Rattle.ep_pad.specs.Lazy.{AreRefused}
 use Rattle.ep_pad.specs.declared.entries.PadEntry.{PadEntry}

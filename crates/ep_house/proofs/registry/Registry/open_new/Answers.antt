@@ -1,4 +1,4 @@
-use Rattle.std.proofs.Common.{◌∙◌, ap, refl, subst, sym, arith, vec_len}
+use Rattle.std.proofs.Common.{◌∙◌, ap, subst, sym, arith, vec_len}
 use Rattle.std.specs.Prelude.{IfOk}
 use Rattle.ep_outside.specs.declared.limits.Limits.{Limits}
 use Rattle.ep_house.specs.Register.{on_disk, in_cell, Comes, found_in}

@@ -1,12 +1,12 @@
-use Rattle.std.proofs.Common.{◌≡◌, ◌∙◌, ap, refl, subst, sym}
+use Rattle.std.proofs.Common.{◌∙◌, ap, refl, subst, sym}
 use Rattle.ep_house.specs.Register.{on_disk}
 use Rattle.ep_house.specs.Named.{wait_of, waits_of}
 use Rattle.ep_house.proofs.Finding.{waits-append}
 use Rattle.ep_house.proofs.Placing.{anywhere}
 use Rattle.ep_house.proofs.registry.Registry.put.Goals as goal
 
-pub into_disk-requires : goal.into_disk-requires
-into_disk-requires g c = (c.args.disk, subst (λ p. g.P.PadOver.is_shut p c.args.disk) (sym c.in-Err.ensures.refused) c.shut-pad.ensures.disk)
+pub into_disk-disk-requires : goal.into_disk-disk-requires
+into_disk-disk-requires g c = (c.args.disk, subst (λ p. g.P.PadOver.is_shut p c.args.disk) (sym c.in-Err.ensures.refused) c.shut-pad.ensures.disk)
 
 pub share-requires-clause-within : goal.share-requires-clause-within
 share-requires-clause-within g c = ap g.P.PadOver.limits_of c.in-Ok.ensures.first ∙ c.shut-pad.ensures.limits
