@@ -10,9 +10,8 @@ use Rattle.ep_groups.specs.declared.entries.DirReply.{DirReply}
 use Rattle.ep_groups.specs.Asking.{AsksOrLacks}
 use Rattle.ep_groups.specs.History.{IsLegal}
 use Rattle.ep_dir_records.specs.Answers.{Seen}
-use Rattle.ep_history.specs.declared.pad_bad.PadBad.{PadBad}
+use Rattle.ep_pad.specs.declared.wanted.Wanted.{Wanted}
 use Rattle.ep_pad.specs.Halls.{Answer}
-use Rattle.ep_units.specs.Text.{Text}
 use Rattle.ep_ask.specs.declared.bad.ApiBad.{ApiBad}
 use Rattle.ep_api.specs.Causes.{of_dir, with_cause}
 use Rattle.ep_api.specs.Tasks.{Asked, Task, Replies, Lacks, ◌>>=◌, ask, draw}
@@ -76,6 +75,6 @@ sits_after tells first is_of known old new e kind r sits of asks = record { of =
 
 -- draws before it
 pub drawn_first : {B : Type 0} (v w : List (DirEntry × DirReply)) (d : Drawn) (f : Drawn → Task B) (r : Result B ApiBad) (t u x : Option (List ℕ))
-    → ByDraws t draw (Ok d) u → ((hall : List (Text × Answer PadBad)) (pads : List Stay) → Does (seen v hall pads u) (f d) r (seen w hall pads x))
-    → (hall : List (Text × Answer PadBad)) (pads : List Stay) → Does (seen v hall pads t) (draw >>= f) r (seen w hall pads x)
+    → ByDraws t draw (Ok d) u → ((hall : List (Wanted × Answer)) (pads : List Stay) → Does (seen v hall pads u) (f d) r (seen w hall pads x))
+    → (hall : List (Wanted × Answer)) (pads : List Stay) → Does (seen v hall pads t) (draw >>= f) r (seen w hall pads x)
 drawn_first v w d f r t u x drew next = λ hall pads. goes _ _ _ draw f d r (drew v hall pads) (next hall pads)

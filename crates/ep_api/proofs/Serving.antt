@@ -5,9 +5,9 @@ use Rattle.ep_units.specs.Text.{Text}
 use Rattle.ep_cell.specs.Passes.{Known}
 use Rattle.ep_groups.specs.declared.entries.DirEntry.{DirEntry}
 use Rattle.ep_groups.specs.declared.entries.DirReply.{DirReply}
-use Rattle.ep_history.specs.declared.pad_bad.PadBad.{PadBad}
 use Rattle.ep_pad.specs.declared.entries.PadEntry.{PadEntry}
 use Rattle.ep_pad.specs.declared.entries.PadReply.{PadReply}
+use Rattle.ep_pad.specs.declared.wanted.Wanted.{Wanted}
 use Rattle.ep_pad.specs.Halls.{Answer}
 use Rattle.ep_ask.specs.Parameters.{Read}
 use Rattle.ep_ask.specs.declared.bad.ApiBad.{ApiBad}
@@ -33,11 +33,11 @@ pub none_holds : {A : Type 0} (P : A → Type 0) (o : Option A) → o ≡ None �
 none_holds {A} P o none = let Q : Option A → Type 0 = λ x. IfSome x P in subst Q (sym none) tt
 
 -- passes that have made no call before
-pub from_fresh : {A : Type 0} (d : List (DirEntry × DirReply)) (h : List (Text × Answer PadBad)) (ps : List Stay) (t : Option (List ℕ)) (task : Task A) (r : Result A ApiBad) (now : Seen)
+pub from_fresh : {A : Type 0} (d : List (DirEntry × DirReply)) (h : List (Wanted × Answer)) (ps : List Stay) (t : Option (List ℕ)) (task : Task A) (r : Result A ApiBad) (now : Seen)
     → d ≡ [] → h ≡ [] → ps ≡ [] → Does (seen d h ps t) task r now → Does (seen [] [] [] t) task r now
 from_fresh d h ps t task r now p q s does =
     let D : List (DirEntry × DirReply) → Type 0 = λ x. Does (seen x h ps t) task r now in
-    let H : List (Text × Answer PadBad) → Type 0 = λ x. Does (seen [] x ps t) task r now in
+    let H : List (Wanted × Answer) → Type 0 = λ x. Does (seen [] x ps t) task r now in
     let P : List Stay → Type 0 = λ x. Does (seen [] [] x t) task r now in
     subst P s (subst H q (subst D p does))
 
@@ -53,7 +53,7 @@ of_refusal read why now a is =
     let P : Read Call → Type 0 = λ x. Does a (request_task now x) (Err why) a in
     subst P (sym is) (rests a (refuse why) (Err why) (refl, refl))
 
-module _ {Hall Desk Pass : Type 0} (hall_known : Hall → Known Text (Answer PadBad)) (desk_known : Desk → Known DirEntry DirReply)
+module _ {Hall Desk Pass : Type 0} (hall_known : Hall → Known Wanted Answer) (desk_known : Desk → Known DirEntry DirReply)
     (known : Pass → Known PadEntry PadReply) (name : Pass → Text) (cell : Pass → TableId) where
   -- no pass shows nothing
   pub seen_of-bare : (a : Answered Hall Desk Pass) (t : Option (List ℕ)) → IsBare a → seen_of hall_known desk_known known name cell a t ≡ seen [] [] [] t

@@ -37,10 +37,10 @@ of_pad which pad.NoMemory = bad.NoMemory
 -- `Gone`; the others answer calls of sessions, and no function makes one
 of_pad which _ = bad.Unknown param.PadId
 
-abbrev pub of_pass : PassBad PadBad → ApiBad
+abbrev pub of_pass : PassBad → ApiBad
 of_pass (pass.Pads n) = bad.Pads
 of_pass (pass.Shelf count) = bad.StoreFailed
-of_pass (pass.Pad why) = of_pad param.PadId why
+of_pass pass.Absent = bad.Unknown param.PadId
 of_pass pass.NoMemory = bad.NoMemory
 
 -- an answer, with the cause of its refusal

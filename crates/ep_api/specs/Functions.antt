@@ -1,5 +1,5 @@
 -- What each function does: its calls of the directory and of pads, in their order, and what it tells of their answers.
-use Rattle.std.specs.Prelude.{ℕ, ◌/◌, Bool, List, [], ◌∷◌, Option, Result, Ok, Err}
+use Rattle.std.specs.Prelude.{ℕ, ◌/◌, Bool, true, false, List, [], ◌∷◌, Option, Result, Ok, Err}
 use Rattle.ep_units.specs.Text.{Text}
 use Rattle.ep_units.specs.PadId.{has_group}
 use Rattle.ep_cs.specs.Doc.{Doc, text_of}
@@ -9,6 +9,7 @@ use Rattle.ep_history.specs.declared.pad_bad.PadBad.{PadBad}
 use Rattle.ep_history.specs.declared.pad_bad.PadBad.TheVariants.{Gone}
 use Rattle.ep_step.specs.declared.telling.Committed.{Committed}
 use Rattle.ep_pad_state.specs.declared.answers.PadStatus.{PadStatus}
+use Rattle.ep_pad.specs.Halls.{want}
 use Rattle.ep_pad.specs.declared.entries.PadEntry.TheVariants as pad
 use Rattle.ep_pad.specs.declared.entries.PadReply.TheVariants as replied
 use Rattle.ep_ask.specs.declared.bad.ApiBad.{ApiBad}
@@ -23,12 +24,12 @@ use Rattle.ep_api.specs.Tasks.{Task, ◌>>=◌, ask, copied, done, draw, if_so, 
 
 -- ---- visits of pads
 
--- a pad that exists already is told by the parameter that names it
+-- a pad is made where it is absent; one that exists already is told by the parameter that names it
 abbrev pub create : Param → Text → Text → ℕ → Task ℕ
-create which id text now = visit id (pad.Create text now) replied.Birth (with_cause (of_pad which))
+create which id text now = visit (want id true) (pad.Create text now) replied.Birth (with_cause (of_pad which))
 
 abbrev pub delete : Text → ℕ → Task (Unit {0})
-delete id now = visit id (pad.Delete now) replied.Done (with_cause (of_pad PadId))
+delete id now = visit (want id false) (pad.Delete now) replied.Done (with_cause (of_pad PadId))
 
 -- an absent pad is passed over
 abbrev pub or_absent : Result (Unit {0}) PadBad → Result (Unit {0}) ApiBad
@@ -37,19 +38,19 @@ or_absent (Err Gone) = Ok tt
 or_absent (Err why) = Err (of_pad PadId why)
 
 abbrev pub delete_if_there : Text → ℕ → Task (Unit {0})
-delete_if_there id now = visit id (pad.Delete now) replied.Done or_absent
+delete_if_there id now = visit (want id false) (pad.Delete now) replied.Done or_absent
 
 abbrev pub set_public : Text → Bool → Task (Unit {0})
-set_public id on = visit id (pad.SetPublic on) replied.Done (with_cause (of_pad PadId))
+set_public id on = visit (want id false) (pad.SetPublic on) replied.Done (with_cause (of_pad PadId))
 
 abbrev pub text : Text → Option ℕ → Task Doc
-text id rev = visit id (pad.Text rev) replied.Text (with_cause (of_pad PadId))
+text id rev = visit (want id false) (pad.Text rev) replied.Text (with_cause (of_pad PadId))
 
 abbrev pub set_text : Text → Text → ℕ → Task Committed
-set_text id t now = visit id (pad.SetText t now) replied.Committed (with_cause (of_pad PadId))
+set_text id t now = visit (want id false) (pad.SetText t now) replied.Committed (with_cause (of_pad PadId))
 
 abbrev pub status : Text → Task PadStatus
-status id = visit id pad.Status replied.Status (with_cause (of_pad PadId))
+status id = visit (want id false) pad.Status replied.Status (with_cause (of_pad PadId))
 
 abbrev pub delete_all : ℕ → List Text → Task (Unit {0})
 delete_all now [] = done tt

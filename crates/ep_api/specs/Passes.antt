@@ -7,13 +7,13 @@ use Rattle.ep_cell.specs.History.{pairs, calls_by}
 use Rattle.ep_cell.specs.Passes.{Known}
 use Rattle.ep_groups.specs.declared.entries.DirEntry.{DirEntry}
 use Rattle.ep_groups.specs.declared.entries.DirReply.{DirReply}
-use Rattle.ep_history.specs.declared.pad_bad.PadBad.{PadBad}
 use Rattle.ep_pad.specs.declared.entries.PadEntry.{PadEntry}
 use Rattle.ep_pad.specs.declared.entries.PadReply.{PadReply}
 use Rattle.ep_pad.specs.declared.pass_bad.PassBad.{PassBad}
+use Rattle.ep_pad.specs.declared.pass_bad.PassBad.TheVariants as pass
+use Rattle.ep_pad.specs.declared.wanted.Wanted.{Wanted}
 use Rattle.ep_pad.specs.Halls.{Answer}
 use Rattle.ep_ask.specs.declared.bad.ApiBad.{ApiBad}
-use Rattle.ep_ask.specs.declared.bad.ApiBad.TheVariants.{NoMemory}
 use Rattle.ep_api.specs.Causes.{of_pass}
 use Rattle.ep_api.specs.Tasks.{Did, Drew, Asked, Refused, Stayed, Task}
 
@@ -32,10 +32,10 @@ asked (Asked e r ∷ log) = (e, r) ∷ asked log
 asked (_ ∷ log) = asked log
 
 -- the passes that were asked for, each with its cell or why there is none
-abbrev pub entered : List Did → List (Text × Answer PadBad)
+abbrev pub entered : List Did → List (Wanted × Answer)
 entered [] = []
-entered (Refused name why ∷ log) = (name, Err why) ∷ entered log
-entered (Stayed name cell calls ∷ log) = (name, Ok cell) ∷ entered log
+entered (Refused wanted why ∷ log) = (wanted, Err why) ∷ entered log
+entered (Stayed wanted cell calls ∷ log) = (wanted, Ok cell) ∷ entered log
 entered (_ ∷ log) = entered log
 
 -- A pass of a pad, and its calls
@@ -47,7 +47,7 @@ pub record Stay : Type 0 where
 -- the passes that were taken, in that order
 abbrev pub stays : List Did → List Stay
 stays [] = []
-stays (Stayed name cell calls ∷ log) = record { name = name; cell = cell; calls = calls } ∷ stays log
+stays (Stayed wanted cell calls ∷ log) = record { name = wanted.name; cell = cell; calls = calls } ∷ stays log
 stays (_ ∷ log) = stays log
 
 -- ---- of passes
@@ -72,11 +72,11 @@ DrawsAll old now (n ∷ ns) = (mid : Option (List ℕ)) × Draws old mid n × Dr
 -- What is seen of passes and draws: the calls of the directory's pass, the pads that the hall was asked for, the passes that were taken, and the numbers to come
 pub record Seen : Type 0 where
   pub desk : List (DirEntry × DirReply)
-  pub hall : List (Text × Answer PadBad)
+  pub hall : List (Wanted × Answer)
   pub pads : List Stay
   pub to_come : Option (List ℕ)
 
-abbrev pub seen : List (DirEntry × DirReply) → List (Text × Answer PadBad) → List Stay → Option (List ℕ) → Seen
+abbrev pub seen : List (DirEntry × DirReply) → List (Wanted × Answer) → List Stay → Option (List ℕ) → Seen
 seen desk hall pads to_come = record { desk = desk; hall = hall; pads = pads; to_come = to_come }
 
 -- what was done is what is seen more
@@ -96,24 +96,28 @@ pub record Does {A : Type 0} (old : Seen) (task : Task A) (r : Result A ApiBad) 
 
 -- by draws
 abbrev pub ByDraws : {A : Type 0} → Option (List ℕ) → Task A → Result A ApiBad → Option (List ℕ) → Type 0
-ByDraws t task r u = (desk : List (DirEntry × DirReply)) (hall : List (Text × Answer PadBad)) (pads : List Stay) → Does (seen desk hall pads t) task r (seen desk hall pads u)
+ByDraws t task r u = (desk : List (DirEntry × DirReply)) (hall : List (Wanted × Answer)) (pads : List Stay) → Does (seen desk hall pads t) task r (seen desk hall pads u)
 
 -- by calls of the directory, and draws
 abbrev pub AtDesk : {A : Type 0} → Known DirEntry DirReply → Option (List ℕ) → Task A → Result A ApiBad → Known DirEntry DirReply → Option (List ℕ) → Type 0
-AtDesk v t task r w u = (hall : List (Text × Answer PadBad)) (pads : List Stay) → Does (seen (own v) hall pads t) task r (seen (own w) hall pads u)
+AtDesk v t task r w u = (hall : List (Wanted × Answer)) (pads : List Stay) → Does (seen (own v) hall pads t) task r (seen (own w) hall pads u)
 
 -- by passes of pads, where some had been taken
-abbrev pub AtHall : {A : Type 0} → Known Text (Answer PadBad) → List Stay → Task A → Result A ApiBad → Known Text (Answer PadBad) → List Stay → Type 0
+abbrev pub AtHall : {A : Type 0} → Known Wanted Answer → List Stay → Task A → Result A ApiBad → Known Wanted Answer → List Stay → Type 0
 AtHall v ps task r w qs = (desk : List (DirEntry × DirReply)) (t : Option (List ℕ)) → Does (seen desk (own v) ps t) task r (seen desk (own w) qs t)
 
 -- a pass was given, which has made no call
-pub record Enters (v : Known Text (Answer PadBad)) (id : Text) (s : Stay) (w : Known Text (Answer PadBad)) : Type 0 where
-  pub hall : own w ≡ own v ++ (id, Ok s.cell) ∷ []
-  pub name : s.name ≡ id
+pub record Enters (v : Known Wanted Answer) (wanted : Wanted) (s : Stay) (w : Known Wanted Answer) : Type 0 where
+  pub hall : own w ≡ own v ++ (wanted, Ok s.cell) ∷ []
+  pub name : s.name ≡ wanted.name
   pub none : s.calls ≡ []
 
--- none was given, and this is told
-pub data IsTurnedAway (v : Known Text (Answer PadBad)) (id : Text) (told : ApiBad) (w : Known Text (Answer PadBad)) : Type 0 where
-  Refuses : (why : PassBad PadBad) → own w ≡ own v ++ (id, Err why) ∷ [] → told ≡ of_pass why → IsTurnedAway v id told w
+-- none was given, for this reason
+pub data IsTurnedAway (v : Known Wanted Answer) (wanted : Wanted) (why : PassBad) (w : Known Wanted Answer) : Type 0 where
+  Refuses : own w ≡ own v ++ (wanted, Err why) ∷ [] → IsTurnedAway v wanted why w
   -- no memory was found for it
-  IsLacking : own w ≡ own v → told ≡ NoMemory → IsTurnedAway v id told w
+  IsLacking : own w ≡ own v → why ≡ pass.NoMemory → IsTurnedAway v wanted why w
+
+-- none was given, and this is told
+abbrev pub IsToldAway : Known Wanted Answer → Wanted → ApiBad → Known Wanted Answer → Type 0
+IsToldAway v wanted told w = (why : PassBad) × IsTurnedAway v wanted why w × (told ≡ of_pass why)

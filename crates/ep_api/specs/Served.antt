@@ -6,9 +6,9 @@ use Rattle.ep_outside.specs.declared.keeper.Pair.{Pair}
 use Rattle.ep_cell.specs.Passes.{Known}
 use Rattle.ep_groups.specs.declared.entries.DirEntry.{DirEntry}
 use Rattle.ep_groups.specs.declared.entries.DirReply.{DirReply}
-use Rattle.ep_history.specs.declared.pad_bad.PadBad.{PadBad}
 use Rattle.ep_pad.specs.declared.entries.PadEntry.{PadEntry}
 use Rattle.ep_pad.specs.declared.entries.PadReply.{PadReply}
+use Rattle.ep_pad.specs.declared.wanted.Wanted.{Wanted}
 use Rattle.ep_pad.specs.Halls.{Answer}
 use Rattle.ep_ask.specs.Parameters.{Read}
 use Rattle.ep_ask.specs.Requests.{call_in}
@@ -38,7 +38,7 @@ pub record IsBare {Hall Desk Pass : Type 0} (a : Answered Hall Desk Pass) : Type
   pub desk : a.desk ≡ None
   pub pads : a.pads.items ≡ []
 
-module _ {Hall Desk Pass : Type 0} (hall_known : Hall → Known Text (Answer PadBad)) (desk_known : Desk → Known DirEntry DirReply)
+module _ {Hall Desk Pass : Type 0} (hall_known : Hall → Known Wanted Answer) (desk_known : Desk → Known DirEntry DirReply)
     (known : Pass → Known PadEntry PadReply) (name_of : Pass → Text) (cell_of : Pass → TableId) where
   -- what is seen of the passes that are handed back
   abbrev pub seen_of : Answered Hall Desk Pass → Option (List ℕ) → Seen

@@ -1,7 +1,6 @@
 -- What is done for a request, and what comes of it.
 use Rattle.std.specs.Prelude.{ℕ, ◌≡◌, ◌⊎◌, ◌%◌, Bool, true, false, List, [], ◌∷◌, ◌++◌, map, length, Result, Ok, Err}
 use Rattle.atomic_table.specs.Seated.{TableId}
-use Rattle.ep_units.specs.Text.{Text}
 use Rattle.ep_dir_records.specs.declared.ids.Drawn.{Drawn}
 use Rattle.ep_dir_records.specs.declared.dir_bad.DirBad.{DirBad}
 use Rattle.ep_groups.specs.declared.entries.DirEntry.{DirEntry}
@@ -9,7 +8,10 @@ use Rattle.ep_groups.specs.declared.entries.DirReply.{DirReply}
 use Rattle.ep_history.specs.declared.pad_bad.PadBad.{PadBad}
 use Rattle.ep_pad.specs.declared.entries.PadEntry.{PadEntry}
 use Rattle.ep_pad.specs.declared.entries.PadReply.{PadReply}
+use Rattle.ep_history.specs.declared.pad_bad.PadBad.TheVariants.{Gone}
+use Rattle.ep_pad.specs.declared.wanted.Wanted.{Wanted}
 use Rattle.ep_pad.specs.declared.pass_bad.PassBad.{PassBad}
+use Rattle.ep_pad.specs.declared.pass_bad.PassBad.TheVariants as pass
 use Rattle.ep_ask.specs.declared.bad.ApiBad.{ApiBad}
 use Rattle.ep_ask.specs.declared.bad.ApiBad.TheVariants.{NoMemory}
 use Rattle.ep_api.specs.Causes.{of_dir, of_pass, with_cause}
@@ -20,10 +22,10 @@ pub data Did : Type 0 where
   Drew : List ℕ → Did
   -- the directory was asked, and replied
   Asked : DirEntry → DirReply → Did
-  -- no pass was given of the pad of this name
-  Refused : Text → PassBad PadBad → Did
-  -- a pass was given of the pad of this name, and made these calls
-  Stayed : Text → TableId → List (PadEntry × PadReply) → Did
+  -- a pass that was asked for was not given
+  Refused : Wanted → PassBad → Did
+  -- a pass that was asked for was given, and made these calls
+  Stayed : Wanted → TableId → List (PadEntry × PadReply) → Did
 
 -- A task says what may be done for it, in this order and nothing else, and what may come of that
 abbrev pub Task : Type 0 → Type 1
@@ -66,18 +68,23 @@ pub data IsAsk {A : Type 0} (e : DirEntry) (kind : Result A DirBad → DirReply)
 abbrev pub ask : {A : Type 0} → DirEntry → (Result A DirBad → DirReply) → Task A
 ask e kind = IsAsk e kind
 
--- a pass of a pad is taken, the pad is asked, and its answer comes of it, as it is judged
-pub data IsVisit {A : Type 0} (id : Text) (e : PadEntry) (kind : Result A PadBad → PadReply) (judge : Result A PadBad → Result A ApiBad) (log : List Did) (r : Result A ApiBad) : Type 0 where
-  Answers : (cell : TableId) (x : Result A PadBad) → log ≡ Stayed id cell ((e, kind x) ∷ []) ∷ [] → r ≡ judge x → IsVisit id e kind judge log r
-  -- no pass is given
-  IsRefused : (why : PassBad PadBad) → log ≡ Refused id why ∷ [] → r ≡ Err (of_pass why) → IsVisit id e kind judge log r
-  -- no memory is found for the call
-  IsIdle : (cell : TableId) → log ≡ Stayed id cell [] ∷ [] → r ≡ Err NoMemory → IsVisit id e kind judge log r
-  -- no memory is found for the pass
-  IsOut : log ≡ [] → r ≡ Err NoMemory → IsVisit id e kind judge log r
+-- what comes of a pass that is refused: that nobody has made the pad is judged as an absent pad's refusal
+abbrev pub turned : {A : Type 0} → (Result A PadBad → Result A ApiBad) → PassBad → Result A ApiBad
+turned judge pass.Absent = judge (Err Gone)
+turned judge why = Err (of_pass why)
 
-abbrev pub visit : {A : Type 0} → Text → PadEntry → (Result A PadBad → PadReply) → (Result A PadBad → Result A ApiBad) → Task A
-visit id e kind judge = IsVisit id e kind judge
+-- a pass of a pad is taken, the pad is asked, and its answer comes of it, as it is judged
+pub data IsVisit {A : Type 0} (wanted : Wanted) (e : PadEntry) (kind : Result A PadBad → PadReply) (judge : Result A PadBad → Result A ApiBad) (log : List Did) (r : Result A ApiBad) : Type 0 where
+  Answers : (cell : TableId) (x : Result A PadBad) → log ≡ Stayed wanted cell ((e, kind x) ∷ []) ∷ [] → r ≡ judge x → IsVisit wanted e kind judge log r
+  -- no pass is given
+  IsRefused : (why : PassBad) → log ≡ Refused wanted why ∷ [] → r ≡ turned judge why → IsVisit wanted e kind judge log r
+  -- no memory is found for the call
+  IsIdle : (cell : TableId) → log ≡ Stayed wanted cell [] ∷ [] → r ≡ Err NoMemory → IsVisit wanted e kind judge log r
+  -- no memory is found for the pass
+  IsOut : log ≡ [] → r ≡ Err NoMemory → IsVisit wanted e kind judge log r
+
+abbrev pub visit : {A : Type 0} → Wanted → PadEntry → (Result A PadBad → PadReply) → (Result A PadBad → Result A ApiBad) → Task A
+visit wanted e kind judge = IsVisit wanted e kind judge
 
 -- ---- one task, and then another
 

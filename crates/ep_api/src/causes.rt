@@ -42,13 +42,13 @@ pub fn of_pad(name: Param, why: PadBad) -> ApiBad
     }
 }
 
-pub fn of_pass(why: PassBad<PadBad>) -> ApiBad
+pub fn of_pass(why: PassBad) -> ApiBad
     ensures { result ≡ of_pass why }
 {
     match why {
         PassBad::Pads(_) => ApiBad::Pads,
         PassBad::Shelf(_) => ApiBad::StoreFailed,
-        PassBad::Pad(why) => of_pad(Param::PadId, why),
+        PassBad::Absent => ApiBad::Unknown(Param::PadId),
         PassBad::NoMemory => ApiBad::NoMemory,
     }
 }

@@ -2,35 +2,63 @@
 
 ghost use Rattle.std.specs.Prelude.{◌≡◌, ◌<◌, true, All, IfOk, IfErr, OnOk, map, vec_len, vec_capacity};
 ghost use Rattle.ep_units.specs.Text.{is_well_formed};
+ghost use Rattle.ep_pad.specs.Halls.{want};
 ghost use Rattle.ep_api.specs.Functions.{create, delete, delete_if_there, or_absent, set_public, set_text, status, text};
 ghost use Rattle.ep_api.specs.Legal.{Stands, Waits};
-ghost use Rattle.ep_api.specs.Passes.{AtHall, Enters, IsTurnedAway, stay_of};
+ghost use Rattle.ep_api.specs.Passes.{AtHall, Enters, IsToldAway, IsTurnedAway, stay_of};
+ghost use Rattle.ep_api.specs.Tasks.{turned};
 
 use crate::causes::{answered, of_pad, of_pass};
 use ep_apply::Doc;
 use ep_ask::{ApiBad, Param};
-use ep_pad::{Committed, PadBad, PadPort, PadStatus};
+use ep_pad::{Committed, PadBad, PadPort, PadStatus, PassBad};
 use ep_units::{PadId, Units};
 use std::sync::Wait;
 
-/// A pass of a pad, and room to keep it.
+/// A pass of a pad, and room to keep it. An absent pad is opened only for who makes it.
 fn enter<R: Wait, P: PadPort>(
     rt: &R,
     pads: &P,
     hall: &mut P::Hall,
     taken: &mut Vec<P::Pass>,
     id: &PadId,
+    makes: bool,
+) -> Result<P::Pass, PassBad>
+    requires waits { Waits (P.is_hall pads.now) (P.is_register (P.limits_of pads.now)) P.hall_known hall.old }
+    ensures waits { Waits (P.is_hall pads.now) (P.is_register (P.limits_of pads.now)) P.hall_known hall.new }
+    ensures stands { IfOk result (Stands (P.is_of pads.now) (P.limits_of pads.now) P.Store.told P.Store.failures P.begun P.known) }
+    ensures enters { IfOk result (λ pass. Enters (P.hall_known hall.old) (want id.now makes) (stay_of P.known P.name_of P.cell_of pass) (P.hall_known hall.new)) }
+    ensures none { IfErr result (λ why. IsTurnedAway (P.hall_known hall.old) (want id.now makes) why (P.hall_known hall.new)) }
+    ensures room { OnOk result (vec_len taken.new < vec_capacity taken.new) }
+    ensures same { taken.new.items ≡ taken.old.items }
+{
+    if taken.reserve(1).is_err() {
+        return Err(PassBad::NoMemory);
+    }
+    match pads.pass(rt, hall, id, makes) {
+        Ok(pass) => Ok(pass),
+        Err(why) => Err(why),
+    }
+}
+
+/// A pass of a pad for a call that is refused where it is not given.
+fn pass_of<R: Wait, P: PadPort>(
+    rt: &R,
+    pads: &P,
+    hall: &mut P::Hall,
+    taken: &mut Vec<P::Pass>,
+    id: &PadId,
+    makes: bool,
 ) -> Result<P::Pass, ApiBad>
     requires waits { Waits (P.is_hall pads.now) (P.is_register (P.limits_of pads.now)) P.hall_known hall.old }
     ensures waits { Waits (P.is_hall pads.now) (P.is_register (P.limits_of pads.now)) P.hall_known hall.new }
     ensures stands { IfOk result (Stands (P.is_of pads.now) (P.limits_of pads.now) P.Store.told P.Store.failures P.begun P.known) }
-    ensures enters { IfOk result (λ pass. Enters (P.hall_known hall.old) id.now (stay_of P.known P.name_of P.cell_of pass) (P.hall_known hall.new)) }
-    ensures none { IfErr result (λ why. IsTurnedAway (P.hall_known hall.old) id.now why (P.hall_known hall.new)) }
+    ensures enters { IfOk result (λ pass. Enters (P.hall_known hall.old) (want id.now makes) (stay_of P.known P.name_of P.cell_of pass) (P.hall_known hall.new)) }
+    ensures none { IfErr result (λ told. IsToldAway (P.hall_known hall.old) (want id.now makes) told (P.hall_known hall.new)) }
     ensures room { OnOk result (vec_len taken.new < vec_capacity taken.new) }
     ensures same { taken.new.items ≡ taken.old.items }
 {
-    taken.reserve(1)?;
-    match pads.pass(rt, hall, id) {
+    match enter(rt, pads, hall, taken, id, makes) {
         Ok(pass) => Ok(pass),
         Err(why) => Err(of_pass(why)),
     }
@@ -54,7 +82,7 @@ pub fn create<R: Wait, P: PadPort>(
     ensures stand { All (Stands (P.is_of pads.now) (P.limits_of pads.now) P.Store.told P.Store.failures P.begun P.known) taken.new.items }
     ensures visits { AtHall (P.hall_known hall.old) (map (stay_of P.known P.name_of P.cell_of) taken.old.items) (create name id.now text.now now) result (P.hall_known hall.new) (map (stay_of P.known P.name_of P.cell_of) taken.new.items) }
 {
-    let mut pass = enter(rt, pads, hall, taken, id)?;
+    let mut pass = pass_of(rt, pads, hall, taken, id, true)?;
     let told = ep_pad_calls::create(rt, pads, &mut pass, text, now);
     taken.push_reserved(pass);
     answered(name, told)
@@ -75,7 +103,7 @@ pub fn delete<R: Wait, P: PadPort>(
     ensures stand { All (Stands (P.is_of pads.now) (P.limits_of pads.now) P.Store.told P.Store.failures P.begun P.known) taken.new.items }
     ensures visits { AtHall (P.hall_known hall.old) (map (stay_of P.known P.name_of P.cell_of) taken.old.items) (delete id.now now) result (P.hall_known hall.new) (map (stay_of P.known P.name_of P.cell_of) taken.new.items) }
 {
-    let mut pass = enter(rt, pads, hall, taken, id)?;
+    let mut pass = pass_of(rt, pads, hall, taken, id, false)?;
     let told = ep_pad_calls::delete(rt, pads, &mut pass, now);
     taken.push_reserved(pass);
     answered(Param::PadId, told)
@@ -88,6 +116,16 @@ fn or_absent(answer: Result<(), PadBad>) -> Result<(), ApiBad>
     match answer {
         Ok(()) | Err(PadBad::Gone) => Ok(()),
         Err(why) => Err(of_pad(Param::PadId, why)),
+    }
+}
+
+/// A pass that is not given, where an absent pad is passed over.
+fn unless_absent(why: PassBad) -> Result<(), ApiBad>
+    ensures { result ≡ turned or_absent why }
+{
+    match why {
+        PassBad::Absent => Ok(()),
+        why => Err(of_pass(why)),
     }
 }
 
@@ -106,7 +144,10 @@ pub fn delete_if_there<R: Wait, P: PadPort>(
     ensures stand { All (Stands (P.is_of pads.now) (P.limits_of pads.now) P.Store.told P.Store.failures P.begun P.known) taken.new.items }
     ensures visits { AtHall (P.hall_known hall.old) (map (stay_of P.known P.name_of P.cell_of) taken.old.items) (delete_if_there id.now now) result (P.hall_known hall.new) (map (stay_of P.known P.name_of P.cell_of) taken.new.items) }
 {
-    let mut pass = enter(rt, pads, hall, taken, id)?;
+    let mut pass = match enter(rt, pads, hall, taken, id, false) {
+        Ok(pass) => pass,
+        Err(why) => return unless_absent(why),
+    };
     let told = ep_pad_calls::delete(rt, pads, &mut pass, now);
     taken.push_reserved(pass);
     or_absent(told)
@@ -127,7 +168,7 @@ pub fn set_public<R: Wait, P: PadPort>(
     ensures stand { All (Stands (P.is_of pads.now) (P.limits_of pads.now) P.Store.told P.Store.failures P.begun P.known) taken.new.items }
     ensures visits { AtHall (P.hall_known hall.old) (map (stay_of P.known P.name_of P.cell_of) taken.old.items) (set_public id.now on) result (P.hall_known hall.new) (map (stay_of P.known P.name_of P.cell_of) taken.new.items) }
 {
-    let mut pass = enter(rt, pads, hall, taken, id)?;
+    let mut pass = pass_of(rt, pads, hall, taken, id, false)?;
     let told = ep_pad_calls::set_public(rt, pads, &mut pass, on);
     taken.push_reserved(pass);
     answered(Param::PadId, told)
@@ -148,7 +189,7 @@ pub fn text<R: Wait, P: PadPort>(
     ensures stand { All (Stands (P.is_of pads.now) (P.limits_of pads.now) P.Store.told P.Store.failures P.begun P.known) taken.new.items }
     ensures visits { AtHall (P.hall_known hall.old) (map (stay_of P.known P.name_of P.cell_of) taken.old.items) (text id.now rev) result (P.hall_known hall.new) (map (stay_of P.known P.name_of P.cell_of) taken.new.items) }
 {
-    let mut pass = enter(rt, pads, hall, taken, id)?;
+    let mut pass = pass_of(rt, pads, hall, taken, id, false)?;
     let told = ep_pad_calls::text(rt, pads, &mut pass, rev);
     taken.push_reserved(pass);
     answered(Param::PadId, told)
@@ -171,7 +212,7 @@ pub fn set_text<R: Wait, P: PadPort>(
     ensures stand { All (Stands (P.is_of pads.now) (P.limits_of pads.now) P.Store.told P.Store.failures P.begun P.known) taken.new.items }
     ensures visits { AtHall (P.hall_known hall.old) (map (stay_of P.known P.name_of P.cell_of) taken.old.items) (set_text id.now text.now now) result (P.hall_known hall.new) (map (stay_of P.known P.name_of P.cell_of) taken.new.items) }
 {
-    let mut pass = enter(rt, pads, hall, taken, id)?;
+    let mut pass = pass_of(rt, pads, hall, taken, id, false)?;
     let told = ep_pad_calls::set_text(rt, pads, &mut pass, text, now);
     taken.push_reserved(pass);
     answered(Param::PadId, told)
@@ -191,7 +232,7 @@ pub fn status<R: Wait, P: PadPort>(
     ensures stand { All (Stands (P.is_of pads.now) (P.limits_of pads.now) P.Store.told P.Store.failures P.begun P.known) taken.new.items }
     ensures visits { AtHall (P.hall_known hall.old) (map (stay_of P.known P.name_of P.cell_of) taken.old.items) (status id.now) result (P.hall_known hall.new) (map (stay_of P.known P.name_of P.cell_of) taken.new.items) }
 {
-    let mut pass = enter(rt, pads, hall, taken, id)?;
+    let mut pass = pass_of(rt, pads, hall, taken, id, false)?;
     let told = ep_pad_calls::status(rt, pads, &mut pass);
     taken.push_reserved(pass);
     answered(Param::PadId, told)

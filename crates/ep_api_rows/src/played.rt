@@ -43,7 +43,7 @@ fn entered<R: Wait, P: PadPort>(
     now: u64,
 ) -> Result<Value> {
     let mut hall = pads.hall(rt);
-    let Ok(mut pass) = pads.pass(rt, &mut hall, &grant.pad) else {
+    let Ok(mut pass) = pads.pass(rt, &mut hall, &grant.pad, true) else {
         return Ok(Value::Null);
     };
     match ep_pad_calls::login(rt, pads, &mut pass, grant, now) {

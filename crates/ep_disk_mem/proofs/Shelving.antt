@@ -1,6 +1,6 @@
 -- A slot put in its place.
-use Rattle.std.proofs.Common.{◌≡◌, ℕ, suc, ◌+◌, ◌<◌, Bool, true, false, List, [], ◌∷◌, ◌++◌, length, get_or, take, drop, Option, Some, None, Result, Ok, Err, refl, sym, ◌∙◌, ap, subst, arith, true≢false, add-one}
-use Rattle.std.specs.Prelude.{IsTrue, ◌&&◌, ◌==◌, cond, bytes_eq, Contains, slice_set, OnOk, OnErr}
+use Rattle.std.proofs.Common.{◌≡◌, ℕ, zero, suc, ◌+◌, ◌<◌, Bool, true, false, List, [], ◌∷◌, ◌++◌, length, get_or, take, drop, Option, Some, None, Result, Ok, Err, refl, sym, ◌∙◌, ap, subst, arith, true≢false, add-one}
+use Rattle.std.specs.Prelude.{IsTrue, ◌↔◌, ◌&&◌, ◌==◌, if◌then◌else◌, cond, bytes_eq, Contains, slice_set, OnOk, OnErr}
 use Rattle.std.specs.Ordering.{is_eq}
 use Rattle.std.specs.declared.cmp.Ordering.{Ordering}
 use Rattle.std.specs.declared.cmp.Ordering.TheVariants.{Less, Equal, Greater}
@@ -17,7 +17,7 @@ use Rattle.ep_outside.proofs.Rising.{and_left, and_right, and_both}
 use Rattle.ep_disk_mem.specs.declared.slots.Slot.{Slot}
 use Rattle.ep_disk_mem.specs.declared.mem_file.MemFile.{MemFile}
 use Rattle.ep_disk_mem.specs.Files.{told_in, names_in, are_sure}
-use Rattle.ep_disk_mem.specs.Slots.{told_file, told_of, names_of, is_sure, all_sure, put_in, slot_of}
+use Rattle.ep_disk_mem.specs.Slots.{told_file, told_of, names_of, has_name, is_sure, all_sure, put_in, slot_of}
 
 tested : (a b : List ℕ) (o : Ordering) → text_cmp a b ≡ o → bytes_eq a b ≡ is_eq o
 tested a b o e = sym (is_eq-slice_cmp a b) ∙ ap is_eq e
@@ -81,6 +81,21 @@ sure_put (s ∷ ss) slot own h = by (text_cmp slot.name s.name) (sure_put ss slo
   by Less more = and_both (is_sure slot.file) (all_sure (s ∷ ss)) own h
   by Equal more = and_both (is_sure slot.file) (all_sure ss) own rest
   by Greater more = and_both (is_sure s.file) (all_sure (put_in ss slot)) (and_left (is_sure s.file) (all_sure ss) h) more
+
+behind : (n : List ℕ) (ns : List (List ℕ)) (name : List ℕ) → (n ≡ name → ⊥) → Contains (n ∷ ns) name → Contains ns name
+behind n ns name other (zero, lt, is) = absurd (other is)
+behind n ns name other (suc k, lt, is) = (k, omega (arith, lt), is)
+
+-- one of them has the name, or it isn't among theirs
+pub among : (ss : List Slot) (name : List ℕ) → IsTrue (has_name ss name) ↔ Contains (names_of ss) name
+among [] name = (λ h. absurd (true≢false (sym h)), λ there. absurd (omega (arith, there.1)))
+among (s ∷ ss) name = by (bytes_eq name s.name) refl (among ss name) where
+  by : (b : Bool) → bytes_eq name s.name ≡ b → (IsTrue (has_name ss name) ↔ Contains (names_of ss) name) → IsTrue (if b then true else has_name ss name) ↔ Contains (s.name ∷ names_of ss) name
+  by true e more = (λ h. (0, omega arith, sym ((bytes_decides name s.name).0 e)), λ there. refl)
+  by false e more = (
+    λ h. let t = more.0 h in (suc t.0, omega (arith, t.1), t.2),
+    λ there. more.1 (behind s.name (names_of ss) name (λ same. true≢false (sym ((bytes_decides name s.name).1 (sym same)) ∙ e)) there),
+  )
 
 -- a name that isn't there has an empty disk
 pub new_told : (ss : List Slot) (name : List ℕ) → (Contains (names_of ss) name → ⊥) → told_of ss name ≡ Some (settled [])

@@ -1,5 +1,5 @@
 -- Working words of private contracts: the names on a shelf in memory, with their files.
-use Rattle.std.specs.Prelude.{ℕ, Bool, true, ◌==◌, ◌&&◌, bytes_eq, if◌then◌else◌, List, [], ◌∷◌, length, Option, Some, None}
+use Rattle.std.specs.Prelude.{ℕ, Bool, true, false, ◌==◌, ◌&&◌, bytes_eq, if◌then◌else◌, List, [], ◌∷◌, length, Option, Some, None}
 use Rattle.ep_units.specs.Text.{text_cmp}
 use Rattle.ep_outside.specs.Disk.{Contents, settled}
 use Rattle.ep_outside.specs.Kept.{by_order}
@@ -20,6 +20,10 @@ told_of (s ∷ ss) name = if bytes_eq name s.name then told_file s.file else tol
 abbrev pub names_of : List Slot → List (List ℕ)
 names_of [] = []
 names_of (s ∷ ss) = s.name ∷ names_of ss
+
+abbrev pub has_name : List Slot → List ℕ → Bool
+has_name [] name = false
+has_name (s ∷ ss) name = if bytes_eq name s.name then true else has_name ss name
 
 -- no device call of the file's disk is to fail
 abbrev pub is_sure : Option Stored → Bool

@@ -11,7 +11,7 @@ ghost use Rattle.ep_disk_mem.specs.Slots.{all_sure, names_of, told_of};
 use crate::faults::Faults;
 use crate::mem_disk::MemDisk;
 use crate::mem_file::MemFile;
-use crate::slots::{Slot, are_sure, disk_at, file_slots, put_slot, slot_names};
+use crate::slots::{Slot, are_sure, disk_at, file_slots, has_slot, put_slot, slot_names};
 use ep_outside::{Device, Disk, Shelf, ShelfBad};
 use ep_units::{NoMemory, PadId};
 use std::alloc::Global;
@@ -88,6 +88,13 @@ impl Shelf for MemShelf {
             return Err(ShelfBad::Failed);
         }
         Ok(slot_names(self.alloc, &self.slots)?)
+    }
+
+    fn has(&mut self, name: &PadId) -> Result<bool, ShelfBad> {
+        if self.faults.call().is_err() {
+            return Err(ShelfBad::Failed);
+        }
+        Ok(has_slot(&self.slots, name))
     }
 
     fn open(&mut self, name: &PadId) -> Result<MemDisk, ShelfBad> {

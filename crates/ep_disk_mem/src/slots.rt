@@ -4,7 +4,7 @@ ghost use Rattle.std.specs.Prelude.{◌≡◌, ◌∷◌, [], true, ℕ, List, N
 ghost use Rattle.ep_units.specs.Text.{text_cmp};
 ghost use Rattle.ep_outside.specs.Shelf.{Holds, rises};
 ghost use Rattle.ep_disk_mem.specs.Files.{are_sure, names_in, told_in};
-ghost use Rattle.ep_disk_mem.specs.Slots.{all_sure, is_sure, names_of, put_in, slot_of, told_file, told_of};
+ghost use Rattle.ep_disk_mem.specs.Slots.{all_sure, has_name, is_sure, names_of, put_in, slot_of, told_file, told_of};
 
 use crate::mem_disk::MemDisk;
 use crate::mem_file::MemFile;
@@ -69,6 +69,18 @@ pub fn disk_at(alloc: Global, slots: &[Slot], name: &PadId) -> Result<MemDisk, N
         }
     }
     MemDisk::new(alloc, Vec::new(alloc), Vec::new(alloc))
+}
+
+/// Whether one has this name.
+pub fn has_slot(slots: &[Slot], name: &PadId) -> bool
+    ensures { result ≡ has_name slots.now name.now }
+{
+    for slot in slots {
+        if is_same(name, &slot.name) {
+            return true;
+        }
+    }
+    false
 }
 
 /// Puts a slot in its place, in place of one of its name.

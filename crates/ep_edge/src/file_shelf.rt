@@ -169,6 +169,21 @@ impl Folder {
         }
     }
 
+    // Whether something stands under a pad's name, be it no file. None is made.
+    fn has<R: Files<File = File> + AllocGlobal>(
+        &self,
+        rt: &R,
+        id: &PadId,
+    ) -> Result<bool, ShelfBad> {
+        let alloc = rt.alloc();
+        let path = path_in(alloc, self.path.as_str(), file_name(alloc, id)?.as_str())?;
+        match fs::symlink_metadata(rt, path.as_str()) {
+            Ok(_) => Ok(true),
+            Err(error) if error.kind() == ErrorKind::NotFound => Ok(false),
+            Err(error) => Err(bad(error)),
+        }
+    }
+
     // What stands at a path, where a file is made if nothing does.
     fn body<R: Files<File = File>>(&mut self, rt: &R, path: &str) -> io::Result<Body> {
         match self.file(rt, path) {
@@ -252,6 +267,17 @@ impl<R: Files<File = File> + AllocGlobal + Clone + Drop> Shelf for FileShelf<R> 
         };
         match found {
             Ok(names) => Ok(names),
+            Err(why) => Err(self.counted(why)),
+        }
+    }
+
+    fn has(&mut self, name: &PadId) -> Result<bool, ShelfBad> {
+        let there = match &self.folder {
+            Ok(folder) => folder.has(&self.files, name),
+            Err(_) => Err(ShelfBad::Failed),
+        };
+        match there {
+            Ok(there) => Ok(there),
             Err(why) => Err(self.counted(why)),
         }
     }

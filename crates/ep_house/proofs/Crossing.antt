@@ -8,7 +8,6 @@ use Rattle.std.specs.contracts.sync.Arc as arc
 use Rattle.std.specs.contracts.alloc.Global as global
 use Rattle.std.specs.contracts.impls.GlobalAllocator.TheImpl as heap
 use Rattle.std.proofs.Crossing.{crosses}
-use Rattle.ep_units.specs.contracts.pad_id.PadId as name
 use Rattle.ep_cell.proofs.Crossing.{cell_sync, cell_send, pass_send}
 use Rattle.ep_outside.specs.declared.machine.Machine as machine
 use Rattle.ep_outside.specs.declared.device.Device as device
@@ -22,6 +21,7 @@ use Rattle.ep_groups.specs.contracts.entries.DirEntry as entry
 use Rattle.ep_groups.specs.contracts.entries.DirReply as reply
 use Rattle.ep_groups.specs.contracts.entries.DirMachineMachine.TheImpl as dir_machine_machine
 use Rattle.ep_house.specs.declared.pad_over.PadOver as pad_over
+use Rattle.ep_pad.specs.contracts.wanted.Wanted as wanted
 use Rattle.ep_pad.specs.contracts.pass_bad.PassBad as bad
 use Rattle.ep_house.specs.contracts.directory.Directory as directory
 use Rattle.ep_house.specs.contracts.named.Named as named
@@ -44,25 +44,25 @@ waiting_send D P E R g d p = variants_send (waiting.enum D P E R g) ((as_row_sen
 kept_send : (W : RattleType) → IsSend W → IsSend (kept.the_row W)
 kept_send W w = search (sendable, crosses) depth 20
 
-module _ (H P D B E R : RattleType) (s : shelf.Ghosts H.Denot D.Denot) (t : device.Ghosts H.Denot) (d : disk.Ghosts D.Denot) (e : device.Ghosts D.Denot) (p : pad_over.Ghosts P.Denot D.Denot B.Denot E.Denot R.Denot) (m : machine.Ghosts P.Denot E.Denot R.Denot)
+module _ (H P D E R : RattleType) (s : shelf.Ghosts H.Denot D.Denot) (t : device.Ghosts H.Denot) (d : disk.Ghosts D.Denot) (e : device.Ghosts D.Denot) (p : pad_over.Ghosts P.Denot D.Denot E.Denot R.Denot) (m : machine.Ghosts P.Denot E.Denot R.Denot)
     (h-send : IsSend H) (d-send : IsSend D) (p-send : IsSend P) where
-  pub registry_send : IsSend (registry.the_row H P D B E R s t d e p m)
+  pub registry_send : IsSend (registry.the_row H P D E R s t d e p m)
   registry_send = search (sendable, crosses, named_send, kept_send, waiting_send) depth 30
 
   abbrev answer_row : RattleType
-  answer_row = result.the_row (arc.the_row (cell.the_row P E R m) global.the_row heap.ghosts) (bad.the_row B)
+  answer_row = result.the_row (arc.the_row (cell.the_row P E R m) global.the_row heap.ghosts) bad.the_row
 
-  pub pads_sync : IsSync (pads.the_row H P D B E R s t d e p m)
-  pads_sync = declared_sync (pads.the_type H P D B E R s t d e p m) (search (sendable, crosses) depth 20, (search (sendable, crosses) depth 20, (cell_sync (registry.the_row H P D B E R s t d e p m) name.the_row answer_row (registry_machine.ghosts H P D B E R s registry_machine.no_dict t registry_machine.no_dict d registry_machine.no_dict e registry_machine.no_dict p registry_machine.no_dict m registry_machine.no_dict registry_machine.no_dict registry_machine.no_dict registry_machine.no_dict registry_machine.no_dict registry_machine.no_dict) registry_send, tt)))
+  pub pads_sync : IsSync (pads.the_row H P D E R s t d e p m)
+  pads_sync = declared_sync (pads.the_type H P D E R s t d e p m) (search (sendable, crosses) depth 20, (search (sendable, crosses) depth 20, (cell_sync (registry.the_row H P D E R s t d e p m) wanted.the_row answer_row (registry_machine.ghosts H P D E R s registry_machine.no_dict t registry_machine.no_dict d registry_machine.no_dict e registry_machine.no_dict p registry_machine.no_dict m registry_machine.no_dict registry_machine.no_dict registry_machine.no_dict registry_machine.no_dict registry_machine.no_dict) registry_send, tt)))
 
-  pub pads_send : IsSend (pads.the_row H P D B E R s t d e p m)
-  pads_send = declared_send (pads.the_type H P D B E R s t d e p m) (search (sendable, crosses) depth 20, (search (sendable, crosses) depth 20, (cell_send (registry.the_row H P D B E R s t d e p m) name.the_row answer_row (registry_machine.ghosts H P D B E R s registry_machine.no_dict t registry_machine.no_dict d registry_machine.no_dict e registry_machine.no_dict p registry_machine.no_dict m registry_machine.no_dict registry_machine.no_dict registry_machine.no_dict registry_machine.no_dict registry_machine.no_dict registry_machine.no_dict) registry_send, tt)))
+  pub pads_send : IsSend (pads.the_row H P D E R s t d e p m)
+  pads_send = declared_send (pads.the_type H P D E R s t d e p m) (search (sendable, crosses) depth 20, (search (sendable, crosses) depth 20, (cell_send (registry.the_row H P D E R s t d e p m) wanted.the_row answer_row (registry_machine.ghosts H P D E R s registry_machine.no_dict t registry_machine.no_dict d registry_machine.no_dict e registry_machine.no_dict p registry_machine.no_dict m registry_machine.no_dict registry_machine.no_dict registry_machine.no_dict registry_machine.no_dict registry_machine.no_dict) registry_send, tt)))
 
-  pub pad_pass_send : IsSend (pad_pass.the_row H P D B E R s t d e p m)
+  pub pad_pass_send : IsSend (pad_pass.the_row H P D E R s t d e p m)
   pad_pass_send =
       let inner : IsSend (pass.the_row P E R) = pass_send P E R p-send in
-      let outer : IsSend (pass.the_row (registry.the_row H P D B E R s t d e p m) name.the_row answer_row) = pass_send (registry.the_row H P D B E R s t d e p m) name.the_row answer_row registry_send in
-      declared_send (pad_pass.the_type H P D B E R s t d e p m) (search (sendable, crosses) depth 20, (shared_send P E R m p-send, (inner, (outer, tt))))
+      let outer : IsSend (pass.the_row (registry.the_row H P D E R s t d e p m) wanted.the_row answer_row) = pass_send (registry.the_row H P D E R s t d e p m) wanted.the_row answer_row registry_send in
+      declared_send (pad_pass.the_type H P D E R s t d e p m) (search (sendable, crosses) depth 20, (shared_send P E R m p-send, (inner, (outer, tt))))
 
 module _ (K : RattleType) (k : keeper.Ghosts K.Denot) (d : device.Ghosts K.Denot) (k-send : IsSend K) where
   pub machine_send : IsSend (dir_machine.the_row K k d)

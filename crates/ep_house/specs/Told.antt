@@ -3,11 +3,12 @@ use Rattle.std.specs.Prelude.{ℕ, List, map, Result}
 use Rattle.atomic_table.specs.Seated.{TableId}
 use Rattle.ep_cell.specs.declared.view.Call.{Call}
 use Rattle.ep_pad.specs.declared.pass_bad.PassBad.{PassBad}
+use Rattle.ep_pad.specs.declared.wanted.Wanted.{Wanted}
 use Rattle.ep_pad.specs.Halls.{Answer, told_of}
 
-module _ {C B : Type 0} (id : C → TableId) where
-  abbrev pub told_call : Call (List ℕ) (Result C (PassBad B)) → Call (List ℕ) (Answer B)
+module _ {C : Type 0} (id : C → TableId) where
+  abbrev pub told_call : Call Wanted (Result C PassBad) → Call Wanted (Answer)
   told_call c = record { by = c.by; entry = c.entry; reply = told_of id c.reply }
 
-  abbrev pub told_log : List (Call (List ℕ) (Result C (PassBad B))) → List (Call (List ℕ) (Answer B))
+  abbrev pub told_log : List (Call Wanted (Result C PassBad)) → List (Call Wanted (Answer))
   told_log log = map told_call log

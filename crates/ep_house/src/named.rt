@@ -19,8 +19,8 @@ pub struct Named<M: Machine + Drop> {
     pub cell: Arc<Cell<M>, Global>,
 }
 
-/// What waits for the next pass of a name: a disk that an opening handed back, or a cell that found no memory
-/// for its place, round a pad that is open.
+/// What waits for the next pass of a name: a disk that found no memory for its cell, or a cell that found none for its
+/// place.
 #[derive(Drop)]
 pub enum Waiting<D, M: Machine + Drop> {
     Disk(D),

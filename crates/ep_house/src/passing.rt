@@ -5,20 +5,20 @@ ghost use Rattle.ep_cell.specs.History.{pairs};
 ghost use Rattle.ep_cell.specs.Passes.{IsFresh, Makes, Meets};
 ghost use Rattle.ep_house.specs.Register.{IsLegal};
 ghost use Rattle.ep_house.specs.Pads.{IsHallOf, IsPassOf, IsSamePad, begun_of, cell_of, hall_known, known, limits_of, name_of};
-ghost use Rattle.ep_pad.specs.Halls.{NotesOrNone, cell_in, told_of};
+ghost use Rattle.ep_pad.specs.Halls.{IsUnmade, NotesOrNone, cell_in, told_of, want};
 
 use crate::pad_over::PadOver;
 use crate::pads::{Hall, PadPass, Pads};
 use crate::registry::Registry;
 use ep_cell::Cell;
 use ep_outside::{Limits, Shelf};
-use ep_pad::PassBad;
+use ep_pad::{PassBad, Wanted};
 use ep_units::{NoMemory, PadId};
 use std::alloc::Global;
 use std::sync::Wait;
 
 impl<H: Shelf + Drop, P: PadOver<H::D>> Pads<H, P> {
-    /// No pad is open.
+    /// No pad has a place.
     pub fn open(alloc: Global, shelf: H, limits: Limits) -> Result<Pads<H, P>, NoMemory>
         ensures limits { IfOk result (λ pads. limits_of pads ≡ limits) }
     {
@@ -42,23 +42,25 @@ impl<H: Shelf + Drop, P: PadOver<H::D>> Pads<H, P> {
     pub fn hall<R: Wait>(&self, rt: &R) -> Hall<H, P>
         ensures of { IsHallOf self.now result }
         ensures fresh { IsFresh (hall_known result) }
-        ensures legal { IsLegal H.failures H.told H.D.failures H.D.told P.refuses (limits_of self.now).pads (pairs (hall_known result).seen) }
+        ensures legal { IsLegal H.failures H.names H.told H.D.failures H.D.told (limits_of self.now).pads (pairs (hall_known result).seen) }
     {
         Hall {
             pass: self.registry.new_pass(rt),
         }
     }
 
-    /// A pass of a pad, which is opened where it isn't open.
+    /// A pass of a pad, which is opened by its first call. One that nobody has made gets a place only for who makes it.
     pub fn pass<R: Wait>(
         &self,
         rt: &R,
         hall: &mut Hall<H, P>,
         pad: &PadId,
-    ) -> Result<PadPass<H, P>, PassBad<P::Bad>>
+        makes: bool,
+    ) -> Result<PadPass<H, P>, PassBad>
         requires of { IsHallOf self.now hall.old }
         ensures hall { IsHallOf self.now hall.new }
-        ensures noted { NotesOrNone (IsLegal H.failures H.told H.D.failures H.D.told P.refuses (limits_of self.now).pads) (hall_known hall.old) pad.now (told_of cell_of result) (hall_known hall.new) }
+        ensures noted { NotesOrNone (IsLegal H.failures H.names H.told H.D.failures H.D.told (limits_of self.now).pads) (hall_known hall.old) (want pad.now makes) (told_of cell_of result) (hall_known hall.new) }
+        ensures unmade { IsUnmade result (pairs (hall_known hall.new).seen) pad.now }
         ensures of { IfOk result (λ pass. IsPassOf self.now pass) }
         ensures name { IfOk result (λ pass. name_of pass ≡ pad.now) }
         ensures fresh { IfOk result (λ pass. IsFresh (known pass)) }
@@ -70,9 +72,10 @@ impl<H: Shelf + Drop, P: PadOver<H::D>> Pads<H, P> {
         let (Ok(name), Ok(asked)) = (pad.copy(self.alloc), pad.copy(self.alloc)) else {
             return Err(PassBad::NoMemory);
         };
+        let wanted = Wanted { name: asked, makes };
         let mut second = self.registry.new_pass(rt);
         self.registry.meet(&mut hall.pass, &mut second);
-        let cell = match self.registry.call(rt, &mut hall.pass, asked) {
+        let cell = match self.registry.call(rt, &mut hall.pass, wanted) {
             Ok(cell) => cell,
             Err(error) => return Err(error),
         };

@@ -1,5 +1,5 @@
 -- Names of disks in their order, and what a shelf tells of a disk.
-use Rattle.std.specs.Prelude.{ℕ, ◌≡◌, Bool, true, ◌&&◌, List, [], ◌∷◌, Option, Some, None, Contains}
+use Rattle.std.specs.Prelude.{ℕ, ◌≡◌, ◌↔◌, Bool, true, ◌&&◌, List, [], ◌∷◌, Option, Some, None, Contains, IsTrue}
 use Rattle.std.specs.Ordering.{is_lt}
 use Rattle.ep_units.specs.Text.{text_cmp}
 use Rattle.ep_outside.specs.Disk.{Contents, settled}
@@ -23,6 +23,11 @@ with_name (n ∷ ns) name = by_order (text_cmp name n) (name ∷ n ∷ ns) (n �
 abbrev pub AreTold : Option (List (List ℕ)) → List (List ℕ) → Type 0
 AreTold None names = Unit {0}
 AreTold (Some ns) names = names ≡ ns
+
+-- where names are told, this one is among them or not
+abbrev pub IsAmong : Option (List (List ℕ)) → List ℕ → Bool → Type 0
+IsAmong None name there = Unit {0}
+IsAmong (Some ns) name there = IsTrue there ↔ Contains ns name
 
 -- names are told, and this one isn't among them
 abbrev pub IsNew : Option (List (List ℕ)) → List ℕ → Type 0

@@ -4,7 +4,7 @@ ghost use Rattle.std.specs.Prelude.{◌≡◌, ◌≢◌, ◌≤◌, ℕ, List, 
 ghost use Rattle.ep_outside.specs.Planned.{Follows};
 ghost use Rattle.ep_outside.specs.Outside.{HasCause};
 ghost use Rattle.ep_outside.specs.Disk.{Contents};
-ghost use Rattle.ep_outside.specs.Shelf.{AreTold, IsNew, Holds, IsEmpty, rises, with_name};
+ghost use Rattle.ep_outside.specs.Shelf.{AreTold, IsAmong, IsNew, Holds, IsEmpty, rises, with_name};
 
 use crate::device::Device;
 use crate::disk::Disk;
@@ -48,6 +48,14 @@ pub trait Shelf: Device {
         ensures sorted { IfOk result (λ found. IsTrue (rises found.items)) }
         ensures names { names self.new ≡ names self.old }
         ensures told { (name : List ℕ) → told self.new name ≡ told self.old name }
+        ensures cause { HasCause (Self.failures self.old) (Self.failures self.new) (Self.is_steady self.old) (Self.is_steady self.new) (IsErrOf result ShelfBad.Failed) }
+        ensures plan { Follows (Self.plan self.old) (Self.plan self.new) (IsErrOf result ShelfBad.Failed) };
+
+    /// Whether it has a disk of this name. None is made.
+    fn has(&mut self, name: &PadId) -> Result<bool, ShelfBad>
+        ensures value { IfOk result (λ there. IsAmong (names self.old) name.now there) }
+        ensures names { names self.new ≡ names self.old }
+        ensures told { (other : List ℕ) → told self.new other ≡ told self.old other }
         ensures cause { HasCause (Self.failures self.old) (Self.failures self.new) (Self.is_steady self.old) (Self.is_steady self.new) (IsErrOf result ShelfBad.Failed) }
         ensures plan { Follows (Self.plan self.old) (Self.plan self.new) (IsErrOf result ShelfBad.Failed) };
 

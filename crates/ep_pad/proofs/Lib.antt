@@ -11,3 +11,4 @@ pub mod Kept
 pub mod Stopping
 pub mod Fronts
 pub mod Histories
+pub mod LazyPads

@@ -33,7 +33,7 @@ HasMade told_by failures begun m h =
     × AllSuit h
 
 -- of a machine that began so: where the disk told then, the calls are a legal run of the rules' machine from such a first state; and the replies suit in any case
-abbrev pub IsLegalFrom : {D : Type 0} → (D → Option Contents) → (D → ℕ) → Held D → List (PadEntry × PadReply) → Type 0
-IsLegalFrom told_by failures begun h =
+abbrev pub IsLegalAfter : {D : Type 0} → (D → Option Contents) → (D → ℕ) → Held D → List (PadEntry × PadReply) → Type 0
+IsLegalAfter told_by failures begun h =
     (HasTold told_by begun → (first : MachineState) × (last : MachineState) × IsFirstOf told_by failures begun first × Runs size first (calls_of h) last)
     × AllSuit h

@@ -6,5 +6,6 @@ pub mod Keeping
 pub mod Stopping
 pub mod Entries
 pub mod Histories
+pub mod Lazy
 pub mod Asking
 pub mod Halls

@@ -1,5 +1,6 @@
 //! The calls as entries with replies, so that a pad is a `Machine`.
 
+ghost use Rattle.std.specs.Prelude.{◌≡◌, Err};
 ghost use Rattle.ep_pad.specs.Entries.{MayAsk, Suits, entry_of, reply_of};
 ghost use Rattle.ep_pad.specs.Crashes.{MakesOver};
 
@@ -78,6 +79,48 @@ pub enum PadReply {
     Status(Result<PadStatus, PadBad>),
 }
 
+impl PadEntry {
+    /// The reply to it where it is refused for this cause.
+    pub(crate) fn refused(self, why: PadBad) -> PadReply
+        ensures suits { Suits self result }
+        ensures reply { reply_of result ≡ Err why }
+    {
+        match self {
+            PadEntry::Login { grant: _, now: _ } => PadReply::Welcome(Err(why)),
+            PadEntry::Resume {
+                grant: _,
+                rev: _,
+                birth: _,
+                author: _,
+                now: _,
+            } => PadReply::CatchUp(Err(why)),
+            PadEntry::Accept {
+                session: _,
+                base: _,
+                change: _,
+                now: _,
+            } => PadReply::Committed(Err(why)),
+            PadEntry::Fetch {
+                session: _,
+                from: _,
+                told: _,
+            } => PadReply::Fetched(Err(why)),
+            PadEntry::Leave { session: _ } => PadReply::Done(Err(why)),
+            PadEntry::Create { text: _, now: _ } => PadReply::Birth(Err(why)),
+            PadEntry::SetText { text: _, now: _ } => PadReply::Committed(Err(why)),
+            PadEntry::Delete { now: _ } => PadReply::Done(Err(why)),
+            PadEntry::SetPublic { on: _ } => PadReply::Done(Err(why)),
+            PadEntry::Text { rev: _ } => PadReply::Text(Err(why)),
+            PadEntry::History {
+                session: _,
+                start: _,
+                count: _,
+            } => PadReply::Piece(Err(why)),
+            PadEntry::Status => PadReply::Status(Err(why)),
+        }
+    }
+}
+
 impl<D: Disk> PadMachine<D> {
     fn answer(&mut self, entry: PadEntry) -> PadReply
         requires { MayAsk (entry_of entry) }
@@ -122,7 +165,7 @@ impl<D: Disk> PadMachine<D> {
 
 impl<D: Disk + Drop> Machine for PadMachine<D> {
     ghost use Rattle.ep_pad.specs.Entries.{MayAsk, entry_of};
-    ghost use Rattle.ep_pad.specs.Histories.{HasMade, IsLegalFrom};
+    ghost use Rattle.ep_pad.specs.Histories.{HasMade, IsLegalAfter};
 
     type Entry = PadEntry;
 
@@ -132,7 +175,7 @@ impl<D: Disk + Drop> Machine for PadMachine<D> {
 
     ghost stands = { HasMade D.told D.failures };
 
-    ghost legal = { IsLegalFrom D.told D.failures };
+    ghost legal = { IsLegalAfter D.told D.failures };
 
     ghost stands_legal = { λ begun m h made. (λ told. let x = made.0 told in (x.0, x.1, x.2, x.3), made.1) };
 

@@ -2,7 +2,6 @@
 
 use crate::entries::{PadEntry, PadReply};
 use crate::pass_bad::PassBad;
-use ep_history::PadBad;
 use ep_outside::{Disk, Limits};
 use ep_units::PadId;
 use std::alloc::Global;
@@ -17,12 +16,11 @@ pub trait PadPort {
     ghost use Rattle.ep_outside.specs.declared.limits.Limits.{Limits as AnyLimits};
     ghost use Rattle.ep_cell.specs.History.{pairs};
     ghost use Rattle.ep_cell.specs.Passes.{IsFresh, Known, Meets};
-    ghost use Rattle.ep_history.specs.declared.pad_bad.PadBad.{PadBad};
     ghost use Rattle.ep_pad.specs.declared.entries.PadEntry.{PadEntry};
     ghost use Rattle.ep_pad.specs.declared.entries.PadReply.{PadReply};
-    ghost use Rattle.ep_pad.specs.Histories.{IsLegalFrom};
-    ghost use Rattle.ep_pad.specs.Held.{Held};
-    ghost use Rattle.ep_pad.specs.Halls.{Answer, NotesOrNone, cell_in, told_of};
+    ghost use Rattle.ep_pad.specs.Lazy.{IsLegalFrom, Lazy};
+    ghost use Rattle.ep_pad.specs.Halls.{Answer, IsUnmade, NotesOrNone, cell_in, told_of, want};
+    ghost use Rattle.ep_pad.specs.declared.wanted.Wanted.{Wanted};
     ghost use Rattle.ep_pad.specs.Asking.{Asks};
     ghost use Rattle.ep_pad.specs.Entries.{MayAsk, Suits, entry_of};
 
@@ -41,10 +39,10 @@ pub trait PadPort {
     ghost is_hall: { Self → Self.Hall → Type 0 };
 
     /// The number of a hall, the names that it has seen asked for with their answers, and how many they are at least.
-    ghost hall_known: { Self.Hall → Known (List ℕ) (Answer PadBad) };
+    ghost hall_known: { Self.Hall → Known Wanted Answer };
 
     /// The names that were asked for, with their answers, may be these, in this order, under such limits.
-    ghost is_register: { AnyLimits → List (List ℕ × Answer PadBad) → Type 0 };
+    ghost is_register: { AnyLimits → List (Wanted × Answer) → Type 0 };
 
     /// The pass is of this port.
     ghost is_of: { Self → Self.Pass → Type 0 };
@@ -55,8 +53,8 @@ pub trait PadPort {
     /// The cell of a pass's pad.
     ghost cell_of: { Self.Pass → TableId };
 
-    /// The machine of a pass's pad as it began, before any call.
-    ghost begun: { Self.Pass → Held Self.Store };
+    /// A pass's pad as it began, before any call.
+    ghost begun: { Self.Pass → Lazy Self.Store };
 
     /// The number of a pass, the history of its pad that it has seen, and how long that is at least.
     ghost known: { Self.Pass → Known PadEntry PadReply };
@@ -74,16 +72,19 @@ pub trait PadPort {
         ensures fresh { IsFresh (hall_known result) }
         ensures legal { is_register (limits_of self.now) (pairs (hall_known result).seen) };
 
-    /// A pass of a pad, which is opened where it isn't open.
+    /// A pass of a pad, which its first call opens. One that nobody has made gets a place only for a caller who makes it; for
+    /// the others nothing is made.
     fn pass<R: Wait>(
         &self,
         rt: &R,
         hall: &mut Self::Hall,
         pad: &PadId,
-    ) -> Result<Self::Pass, PassBad<PadBad>>
+        makes: bool,
+    ) -> Result<Self::Pass, PassBad>
         requires of { is_hall self.now hall.old }
         ensures hall { is_hall self.now hall.new }
-        ensures noted { NotesOrNone (is_register (limits_of self.now)) (hall_known hall.old) pad.now (told_of cell_of result) (hall_known hall.new) }
+        ensures noted { NotesOrNone (is_register (limits_of self.now)) (hall_known hall.old) (want pad.now makes) (told_of cell_of result) (hall_known hall.new) }
+        ensures unmade { IsUnmade result (pairs (hall_known hall.new).seen) pad.now }
         ensures of { IfOk result (λ pass. is_of self.now pass) }
         ensures name { IfOk result (λ pass. name_of pass ≡ pad.now) }
         ensures fresh { IfOk result (λ pass. IsFresh (known pass)) }

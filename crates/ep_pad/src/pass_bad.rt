@@ -1,13 +1,13 @@
 //! Why a pass of a pad was not given.
 
-/// Why a pass of a pad was not given; `B` is why a pad's disk was refused.
+/// Why a pass of a pad was not given.
 #[derive(Drop)]
-pub enum PassBad<B> {
-    /// So many pads are open, which is the limit, and this is not one of them.
+pub enum PassBad {
+    /// So many pads have a place, which is the limit, and this is not one of them.
     Pads(u64),
     /// The shelf failed; so often has it failed.
     Shelf(u64),
-    /// The pad's disk was refused. It waits for the next pass.
-    Pad(B),
+    /// Nobody has made the pad, and who asked doesn't make it.
+    Absent,
     NoMemory,
 }

@@ -4,7 +4,7 @@ ghost use Rattle.std.specs.Prelude.{◌≡◌, ◌≤◌, true, option_map};
 ghost use Rattle.ep_units.specs.Text.{is_well_formed};
 ghost use Rattle.ep_pad.specs.declared.entries.PadEntry.TheVariants as entry;
 ghost use Rattle.ep_pad.specs.declared.entries.PadReply.TheVariants as reply;
-ghost use Rattle.ep_pad.specs.Histories.{IsLegalFrom};
+ghost use Rattle.ep_pad.specs.Lazy.{IsLegalFrom};
 ghost use Rattle.ep_pad.specs.Asking.{Asks, AsksOrLacks};
 
 use crate::copying::{copied_author, copied_grant};

@@ -5,12 +5,12 @@ ghost use Rattle.ep_pad_port.specs.House.{limits_of};
 
 use ep_house::{Directory, PadOver, Pads};
 use ep_outside::{Keeper, Limits, Shelf};
-use ep_pad::PadMachine;
+use ep_pad::LazyPad;
 use ep_units::NoMemory;
 use std::alloc::Global;
 
 /// The pads that stand on a shelf, and the directory that stands in a keeper. They share nothing.
-pub type House<H, K> = HouseOf<H, PadMachine<<H as Shelf>::D>, K>;
+pub type House<H, K> = HouseOf<H, LazyPad<<H as Shelf>::D>, K>;
 
 /// A house whose pads are such machines. Where these make the calls of a pad it is a `PadPort`, and it is a `DirPort`.
 pub struct HouseOf<H: Shelf + Drop, P: PadOver<H::D>, K: Keeper + Drop> {
@@ -20,7 +20,7 @@ pub struct HouseOf<H: Shelf + Drop, P: PadOver<H::D>, K: Keeper + Drop> {
 }
 
 impl<H: Shelf + Drop, P: PadOver<H::D>, K: Keeper + Drop> HouseOf<H, P, K> {
-    /// No pad is open, and no call of the directory was made.
+    /// No pad has a place, and no call of the directory was made.
     pub fn open(
         alloc: Global,
         shelf: H,

@@ -4,7 +4,7 @@ use crate::house::HouseOf;
 use crate::pad_calls::PadCalls;
 use ep_house::{Hall, PadPass};
 use ep_outside::{Keeper, Limits, Shelf};
-use ep_pad::{PadBad, PadEntry, PadPort, PadReply, PassBad};
+use ep_pad::{PadEntry, PadPort, PadReply, PassBad};
 use ep_units::PadId;
 use std::alloc::Global;
 use std::sync::Wait;
@@ -26,7 +26,7 @@ impl<H: Shelf + Drop, P: PadCalls<H::D>, K: Keeper + Drop> PadPort for HouseOf<H
 
     ghost hall_known = { λ hall. pads.hall_known hall };
 
-    ghost is_register = { λ limits names. IsLegal H.failures H.told H.D.failures H.D.told P.refuses limits.pads names };
+    ghost is_register = { λ limits names. IsLegal H.failures H.names H.told H.D.failures H.D.told limits.pads names };
 
     ghost is_of = { λ house pass. IsPassOf house.pads pass };
 
@@ -55,8 +55,9 @@ impl<H: Shelf + Drop, P: PadCalls<H::D>, K: Keeper + Drop> PadPort for HouseOf<H
         rt: &R,
         hall: &mut Hall<H, P>,
         pad: &PadId,
-    ) -> Result<PadPass<H, P>, PassBad<PadBad>> {
-        self.pads.pass(rt, hall, pad)
+        makes: bool,
+    ) -> Result<PadPass<H, P>, PassBad> {
+        self.pads.pass(rt, hall, pad, makes)
     }
 
     fn meet(&self, one: &mut PadPass<H, P>, other: &mut PadPass<H, P>) {

@@ -114,7 +114,7 @@ fn read_pad<R: Wait, P: PadPort>(
         return Ok(false);
     };
     let mut hall = pads.hall(rt);
-    let Ok(mut pass) = pads.pass(rt, &mut hall, &pad) else {
+    let Ok(mut pass) = pads.pass(rt, &mut hall, &pad, false) else {
         return Ok(false);
     };
     read_by(rt, alloc, pads, &mut pass, served)

@@ -4,7 +4,7 @@ use denote.Param.Send.{IsSend, IsSync, sendable}
 use denote.Param.SendFields.{declared_send}
 use Rattle.std.specs.declared.sync.Wait as wait
 use Rattle.std.proofs.Crossing.{crosses}
-use Rattle.ep_pad.proofs.machine.PadMachine.TheSendSync as machine
+use Rattle.ep_pad.proofs.lazy.LazyPad.TheSendSync as lazy_pad
 use Rattle.ep_pad_port.proofs.Crossing.{house_send, house_sync}
 use Rattle.ep_serve.proofs.Crossing.{serving_send}
 use Rattle.ep_real.specs.contracts.host.RealJob as real_job
@@ -54,4 +54,4 @@ ear_sends : IsSend wake_ear.the_row
 ear_sends = search (sendable, crosses) depth 100 fits 1000000
 
 pub job_sends : (R A B : RattleType) (w : wait.Ghosts R.Denot) → IsSend R → IsSync R → IsSend (real_job.the_row R A B w)
-job_sends R A B w r y = declared_send (real_job.the_type R A B w) (search (serving_send, house_send, house_sync, disk_sends, shelf_sends, far_send, machine.the_send, link_sends, stream_sends, clock_sends, clock_syncs, draws_sends, ear_sends) depth 100 fits 1000000, tt)
+job_sends R A B w r y = declared_send (real_job.the_type R A B w) (search (serving_send, house_send, house_sync, disk_sends, shelf_sends, far_send, lazy_pad.the_send, link_sends, stream_sends, clock_sends, clock_syncs, draws_sends, ear_sends) depth 100 fits 1000000, tt)

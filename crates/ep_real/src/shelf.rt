@@ -125,6 +125,10 @@ impl Shelf for RealShelf {
         self.shelf.names()
     }
 
+    fn has(&mut self, name: &PadId) -> Result<bool, ShelfBad> {
+        self.shelf.has(name)
+    }
+
     fn open(&mut self, name: &PadId) -> Result<RealDisk, ShelfBad> {
         match self.shelf.open(name) {
             Ok(disk) => Ok(RealDisk { disk }),

@@ -6,7 +6,7 @@ use crate::bell::NOBODY;
 use crate::bells::Bells;
 use ep_link::Ear;
 use ep_outside::Limits;
-use ep_pad::{PadBad, PadEntry, PadPort, PadReply, PassBad};
+use ep_pad::{PadEntry, PadPort, PadReply, PassBad};
 use ep_units::{NoMemory, PadId, Units};
 use std::alloc::Global;
 use std::sync::{Arc, Mutex, Wait};
@@ -136,11 +136,12 @@ impl<P: PadPort + Drop, E: Ear> PadPort for Ringing<P, E> {
         rt: &R,
         hall: &mut P::Hall,
         pad: &PadId,
-    ) -> Result<RingPass<P::Pass>, PassBad<PadBad>> {
+        makes: bool,
+    ) -> Result<RingPass<P::Pass>, PassBad> {
         let Ok(name) = Units::from_slice(self.bells.alloc(), pad.as_slice()) else {
             return Err(PassBad::NoMemory);
         };
-        match self.pads.pass(rt, hall, pad) {
+        match self.pads.pass(rt, hall, pad, makes) {
             Ok(pass) => Ok(RingPass { pass, pad: name }),
             Err(bad) => Err(bad),
         }

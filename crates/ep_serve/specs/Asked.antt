@@ -6,9 +6,9 @@ use Rattle.ep_outside.specs.Outside.{HasRisen, Takes, TakesPart}
 use Rattle.ep_cell.specs.Passes.{Known}
 use Rattle.ep_groups.specs.declared.entries.DirEntry.{DirEntry}
 use Rattle.ep_groups.specs.declared.entries.DirReply.{DirReply}
-use Rattle.ep_history.specs.declared.pad_bad.PadBad.{PadBad}
 use Rattle.ep_pad.specs.declared.entries.PadEntry.{PadEntry}
 use Rattle.ep_pad.specs.declared.entries.PadReply.{PadReply}
+use Rattle.ep_pad.specs.declared.wanted.Wanted.{Wanted}
 use Rattle.ep_pad.specs.Halls.{Answer}
 use Rattle.ep_http.specs.Replies.{refusal, reply, status_of}
 use Rattle.ep_http.specs.Requests.{Makes, Refuses}
@@ -57,7 +57,7 @@ Writes held failures mid end r (Err bad.Reply) = TakesPart (held mid) (held end)
 Writes held failures mid end r (Err bad.NoMemory) = end ≡ mid
 Writes held failures mid end r (Err why) = ⊥
 
-module _ {Hall Desk Pass : Type 0} (hall_known : Hall → Known Text (Answer PadBad)) (desk_known : Desk → Known DirEntry DirReply)
+module _ {Hall Desk Pass : Type 0} (hall_known : Hall → Known Wanted Answer) (desk_known : Desk → Known DirEntry DirReply)
     (known : Pass → Known PadEntry PadReply) (name_of : Pass → Text) (cell_of : Pass → TableId)
     (is_hall : Hall → Type 0) (is_desk : Desk → Type 0) (is_pass : Pass → Type 0)
     (may_show : ℕ → Type 0) (key : List ℕ) (old new : Option (List ℕ)) where

@@ -1,12 +1,11 @@
 -- What a job leaves.
 use Rattle.std.specs.Prelude.{ℕ, List, Option, IfSome}
-use Rattle.ep_units.specs.Text.{Text}
 use Rattle.ep_cell.specs.Passes.{Known}
 use Rattle.ep_dir_records.specs.declared.ids.Drawn.{Drawn}
 use Rattle.ep_groups.specs.declared.entries.DirEntry.{DirEntry}
 use Rattle.ep_groups.specs.declared.entries.DirReply.{DirReply}
-use Rattle.ep_history.specs.declared.pad_bad.PadBad.{PadBad}
 use Rattle.ep_link.specs.declared.passed.Passed.{Passed}
+use Rattle.ep_pad.specs.declared.wanted.Wanted.{Wanted}
 use Rattle.ep_pad.specs.Halls.{Answer}
 use Rattle.ep_pad.specs.declared.entries.PadEntry.{PadEntry}
 use Rattle.ep_pad.specs.declared.entries.PadReply.{PadReply}
@@ -16,7 +15,7 @@ use Rattle.ep_session.specs.Served.{Served}
 use Rattle.ep_session.specs.declared.session.Report.{Report}
 
 -- a caller of pads had a session: ten numbers were drawn for it, it went as the walk says, and its passes are of these ports
-pub record HasSat {Hall Desk Pass : Type 0} (hall_known : Hall → Known Text (Answer PadBad)) (desk_known : Desk → Known DirEntry DirReply) (known : Pass → Known PadEntry PadReply)
+pub record HasSat {Hall Desk Pass : Type 0} (hall_known : Hall → Known Wanted Answer) (desk_known : Desk → Known DirEntry DirReply) (known : Pass → Known PadEntry PadReply)
     (is_hall : Hall → Type 0) (is_desk : Desk → Type 0) (is_pass : Pass → Type 0)
     (may_show : ℕ → Type 0) (draws0 draws1 : Option (List ℕ)) (sent0 sent1 : Option (List Passed)) (report : Report Hall Pass Desk) : Type 0 where
   pub drawn : Drawn

@@ -75,7 +75,7 @@ pub granted_fits : (at : Place) (ready : Ready) (r : Result Grant DirBad) → Fi
 granted_fits at ready (Ok grant) = refl
 granted_fits at ready (Err b) = tt
 
-pub entered_fits : (at : Place) (grant : Grant) (resume : Option Resume) (r : Answer PadBad) → Fits [] (entered at grant resume r)
+pub entered_fits : (at : Place) (grant : Grant) (resume : Option Resume) (r : Answer) → Fits [] (entered at grant resume r)
 entered_fits at grant None (Ok id) = refl
 entered_fits at grant (Some again) (Ok id) = refl
 entered_fits at grant resume (Err b) = tt
@@ -256,7 +256,7 @@ granted_has : (at : Place) (ready : Ready) (r : Result Grant DirBad) → HasActs
 granted_has at ready (Ok grant) = refl
 granted_has at ready (Err b) = omega arith
 
-entered_has : (at : Place) (grant : Grant) (resume : Option Resume) (r : Answer PadBad) → HasActs [] (entered at grant resume r)
+entered_has : (at : Place) (grant : Grant) (resume : Option Resume) (r : Answer) → HasActs [] (entered at grant resume r)
 entered_has at grant None (Ok id) = refl
 entered_has at grant (Some again) (Ok id) = refl
 entered_has at grant resume (Err b) = omega arith

@@ -4,10 +4,8 @@ use Rattle.std.specs.Prelude.{◌⊎◌, ◌&&◌, Bool, IfSome, Result, Ok, Err
 use Rattle.std.specs.List.{AllByRecursion}
 use Rattle.atomic_table.specs.Seated.{TableId}
 use Rattle.ep_outside.specs.Outside.{HasRisen}
-use Rattle.ep_units.specs.Text.{Text}
 use Rattle.ep_units.specs.declared.grant.Grant.{Grant}
 use Rattle.ep_cell.specs.Passes.{Known}
-use Rattle.ep_history.specs.declared.pad_bad.PadBad.{PadBad}
 use Rattle.ep_dir_records.specs.declared.dir_bad.DirBad.{DirBad}
 use Rattle.ep_dir_records.specs.declared.dir_bad.DirBad.TheVariants as dirbad
 use Rattle.ep_dir_records.specs.declared.ids.Drawn.{Drawn}
@@ -15,7 +13,8 @@ use Rattle.ep_groups.specs.Asking.{AsksOrLacks}
 use Rattle.ep_groups.specs.declared.entries.DirEntry.{DirEntry}
 use Rattle.ep_groups.specs.declared.entries.DirReply.{DirReply}
 use Rattle.ep_groups.specs.declared.entries.DirReply.TheVariants as dirs
-use Rattle.ep_pad.specs.Halls.{Answer, NotesOrNone, told_of}
+use Rattle.ep_pad.specs.declared.wanted.Wanted.{Wanted}
+use Rattle.ep_pad.specs.Halls.{Answer, NotesOrNone, told_of, want}
 use Rattle.ep_pad.specs.declared.entries.PadEntry.{PadEntry}
 use Rattle.ep_pad.specs.declared.entries.PadReply.{PadReply}
 use Rattle.ep_pad.specs.declared.pass_bad.PassBad.{PassBad}
@@ -24,9 +23,9 @@ use Rattle.ep_wire_words.specs.declared.client.Resume.{Resume}
 use Rattle.ep_wire_words.specs.declared.server.Word.{Word}
 use Rattle.ep_link.specs.Traffic.{Adds}
 use Rattle.ep_link.specs.declared.passed.Passed.{Passed}
-use Rattle.ep_session.specs.Passing.{Goes, IfBoth, own, own_of}
-use Rattle.ep_session.specs.Ends.{end_of_pass, end_of_dir, closing_of}
-use Rattle.ep_session.specs.Session.{Did, Heard, Understood, Said, Unsaid, Called, Granted, Entered, Duty, Fetch, Hear, Ask, Enter, Then, Ends, Runs, asking, granted, joining, traffic_of, calls_of, desk_of, hall_of, moments_of}
+use Rattle.ep_session.specs.Passing.{Goes, IfBoth, IsGiven, own, own_of}
+use Rattle.ep_session.specs.Ends.{end_of_pass, end_of_dir, closing_of, may_make}
+use Rattle.ep_session.specs.Session.{Did, Heard, Understood, Said, Unsaid, Called, Granted, Entered, Duty, Fetch, Hear, Ask, Enter, Then, Ends, Runs, asking, granted, joining, traffic_of, calls_of, desk_of, hall_of, moments_of, wanting}
 use Rattle.ep_session.specs.Says.{OnLink, Done, Ended, Came, IsCaused, IsInside, IsFault, no_moment}
 use Rattle.ep_session.specs.Served.{LeavesBy, last_of}
 use Rattle.ep_session.specs.declared.end.End.{End}
@@ -86,22 +85,22 @@ hall_on (Granted now e r ∷ a) b h = absurd h
 hall_on (Entered pad r ∷ a) b h = absurd h
 
 abbrev pub HallView : Type 0
-HallView = Known Text (Answer PadBad)
+HallView = Known Wanted Answer
 
 -- the first call of a hall
-hall_first : (h0 h1 : HallView) (name : Text) (r : Answer PadBad) → own h0 ≡ [] → own h1 ≡ own h0 ++ (name, r) ∷ [] → own h1 ≡ (name, r) ∷ []
+hall_first : (h0 h1 : HallView) (name : Wanted) (r : Answer) → own h0 ≡ [] → own h1 ≡ own h0 ++ (name, r) ∷ [] → own h1 ≡ (name, r) ∷ []
 hall_first h0 h1 name r none more = more ∙ ap (λ l. l ++ (name, r) ∷ []) none
 
 -- a session on its pad, once the registry gave the pass
 pub came_in : (shows : ℕ → Type 0) (a b : Option (List Passed)) (h0 h1 : HallView) (u v : PadView) (old new : Place) (grant : Grant) (resume : Option Resume) (id : TableId) (e : End)
-    → own h0 ≡ [] → own h1 ≡ own h0 ++ (grant.pad, Ok id) ∷ [] → own u ≡ [] → Ended shows a b u v old new (joining grant resume ∷ []) e → Came shows a b [] (own h1) (own v) old new (Enter grant resume ∷ []) e
+    → own h0 ≡ [] → own h1 ≡ own h0 ++ (wanting grant resume, Ok id) ∷ [] → own u ≡ [] → Ended shows a b u v old new (joining grant resume ∷ []) e → Came shows a b [] (own h1) (own v) old new (Enter grant resume ∷ []) e
 came_in shows a b h0 h1 u v old new grant resume id e none call fresh p =
     let w = p.performs [] in
     record {
-      log = Entered grant.pad (Ok id) ∷ p.log;
+      log = Entered (wanting grant resume) (Ok id) ∷ p.log;
       traffic = p.traffic;
       desk_calls = sym (inside_desk p.log p.inside);
-      hall_calls = hall_first h0 h1 grant.pad (Ok id) none call ∙ ap (λ l. (grant.pad, Ok id) ∷ l) (sym (inside_hall p.log p.inside));
+      hall_calls = hall_first h0 h1 (wanting grant resume) (Ok id) none call ∙ ap (λ l. (wanting grant resume, Ok id) ∷ l) (sym (inside_hall p.log p.inside));
       calls = first_made u v _ fresh p.calls;
       moments = p.moments;
       out = w.0;
@@ -113,16 +112,16 @@ came_in shows a b h0 h1 u v old new grant resume id e none call fresh p =
 pub came_short : (shows : ℕ → Type 0) (a : Option (List Passed)) (at : Place) (due : List Duty) → Came shows a a [] [] [] at at due ends.NoMemory
 came_short shows a at due = record { log = []; traffic = adds_nothing a; desk_calls = refl; hall_calls = refl; calls = refl; moments = tt; out = Then at due; runs = refl; ends = inr (refl, refl) }
 
-pass_refused : (shows : ℕ → Type 0) (a : Option (List Passed)) (h0 h1 : HallView) (at : Place) (grant : Grant) (resume : Option Resume) (b : PassBad PadBad) → own h0 ≡ [] → own h1 ≡ own h0 ++ (grant.pad, Err b) ∷ [] → Came shows a a [] (own h1) [] at at (Enter grant resume ∷ []) (end_of_pass b)
+pass_refused : (shows : ℕ → Type 0) (a : Option (List Passed)) (h0 h1 : HallView) (at : Place) (grant : Grant) (resume : Option Resume) (b : PassBad) → own h0 ≡ [] → own h1 ≡ own h0 ++ (wanting grant resume, Err b) ∷ [] → Came shows a a [] (own h1) [] at at (Enter grant resume ∷ []) (end_of_pass grant resume b)
 pass_refused shows a h0 h1 at grant resume b none call = record {
-  log = Entered grant.pad (Err b) ∷ [];
+  log = Entered (wanting grant resume) (Err b) ∷ [];
   traffic = adds_nothing a;
   desk_calls = refl;
-  hall_calls = hall_first h0 h1 grant.pad (Err b) none call;
+  hall_calls = hall_first h0 h1 (wanting grant resume) (Err b) none call;
   calls = refl;
   moments = tt;
-  out = Ends at (end_of_pass b);
-  runs = inr (at, end_of_pass b, (Err b, refl, refl), refl, refl);
+  out = Ends at (end_of_pass grant resume b);
+  runs = inr (at, end_of_pass grant resume b, (Err b, refl, refl), refl, refl);
   ends = inl refl;
 }
 
@@ -130,18 +129,30 @@ not_given : {X E : Type 0} (x : X) (e : E) → Ok x ≡ Err e → ⊥
 not_given x e h = search rules
 
 -- the registry refused, or memory ran out before it was asked
-pub came_refused : {P : Type 0} (Legal : List (List ℕ × Answer PadBad) → Type 0) (cell_of : P → TableId) (shows : ℕ → Type 0) (a : Option (List Passed)) (h0 h1 : HallView) (at : Place) (grant : Grant) (resume : Option Resume) (r : Result P (PassBad PadBad)) (b : PassBad PadBad) (e : End)
-    → own h0 ≡ [] → NotesOrNone Legal h0 grant.pad (told_of cell_of r) h1 → r ≡ Err b → e ≡ end_of_pass b → Came shows a a [] (own h1) [] at at (Enter grant resume ∷ []) e
-came_refused {P = P} Legal cell_of shows a h0 h1 at grant resume r b e none notes is same = subst (λ e. Came shows a a [] (own h1) [] at at (Enter grant resume ∷ []) e) (sym same) (go (subst (λ r. NotesOrNone Legal h0 grant.pad (told_of cell_of r) h1) is notes))
+pub came_refused : {P : Type 0} (Legal : List (Wanted × Answer) → Type 0) (cell_of : P → TableId) (shows : ℕ → Type 0) (a : Option (List Passed)) (h0 h1 : HallView) (at : Place) (grant : Grant) (resume : Option Resume) (r : Result P PassBad) (b : PassBad) (e : End)
+    → own h0 ≡ [] → NotesOrNone Legal h0 (wanting grant resume) (told_of cell_of r) h1 → r ≡ Err b → e ≡ end_of_pass grant resume b → Came shows a a [] (own h1) [] at at (Enter grant resume ∷ []) e
+came_refused {P = P} Legal cell_of shows a h0 h1 at grant resume r b e none notes is same = subst (λ e. Came shows a a [] (own h1) [] at at (Enter grant resume ∷ []) e) (sym same) (go (subst (λ r. NotesOrNone Legal h0 (wanting grant resume) (told_of cell_of r) h1) is notes))
   where
-    go : NotesOrNone Legal h0 grant.pad (Err b) h1 → Came shows a a [] (own h1) [] at at (Enter grant resume ∷ []) (end_of_pass b)
-    go (inl n) = pass_refused shows a h0 h1 at grant resume b none (noted Legal h0 h1 grant.pad (Err b) n)
+    go : NotesOrNone Legal h0 (wanting grant resume) (Err b) h1 → Came shows a a [] (own h1) [] at at (Enter grant resume ∷ []) (end_of_pass grant resume b)
+    go (inl n) = pass_refused shows a h0 h1 at grant resume b none (noted Legal h0 h1 (wanting grant resume) (Err b) n)
     go (inr (short, same)) =
-        subst (λ l. Came shows a a [] l [] at at (Enter grant resume ∷ []) (end_of_pass b)) (sym (ap own same ∙ none))
-        (subst (λ b. Came shows a a [] [] [] at at (Enter grant resume ∷ []) (end_of_pass b)) (sym (same_err {X = TableId} (Err b) b passbad.NoMemory refl short)) (came_short shows a at (Enter grant resume ∷ [])))
+        subst (λ l. Came shows a a [] l [] at at (Enter grant resume ∷ []) (end_of_pass grant resume b)) (sym (ap own same ∙ none))
+        (subst (λ b. Came shows a a [] [] [] at at (Enter grant resume ∷ []) (end_of_pass grant resume b)) (sym (same_err {X = TableId} (Err b) b passbad.NoMemory refl short)) (came_short shows a at (Enter grant resume ∷ [])))
+
+-- what is asked for is the granted pad, which is made where it may be
+pub noted_as : (grant : Grant) (resume : Option Resume) (Legal : List (Wanted × Answer) → Type 0) (h0 h1 : HallView) (r : Answer) (makes : Bool) → makes ≡ may_make grant resume → NotesOrNone Legal h0 (want grant.pad makes) r h1 → NotesOrNone Legal h0 (wanting grant resume) r h1
+noted_as grant resume Legal h0 h1 r makes is = subst (λ b. NotesOrNone Legal h0 (want grant.pad b) r h1) is
+
+-- the pass that was given is the one that the hall was answered
+pub given_still : {P : Type 0} (name_of : P → List ℕ) (cell_of : P → TableId) (h0 h1 : HallView) (pad : List ℕ) (makes : Bool) (old new : P) → own h0 ≡ [] → own h1 ≡ own h0 ++ (want pad makes, Ok (cell_of old)) ∷ [] → name_of old ≡ pad → (name_of new ≡ name_of old) × (cell_of new ≡ cell_of old) → IsGiven (own h1) (name_of new) (cell_of new)
+given_still name_of cell_of h0 h1 pad makes old new none call is stays = (
+  makes,
+  hall_first h0 h1 (want pad makes) (Ok (cell_of old)) none call
+      ∙ (ap (λ (x : List ℕ). (want x makes, Ok (cell_of old)) ∷ []) (sym (stays.0 ∙ is)) ∙ ap (λ (x : TableId). (want (name_of new) makes, Ok x) ∷ []) (sym stays.1)),
+)
 
 -- the registry gave a pass, so it was asked
-pub was_noted : {P : Type 0} (Legal : List (List ℕ × Answer PadBad) → Type 0) (cell_of : P → TableId) (h0 h1 : HallView) (pad : Text) (r : Result P (PassBad PadBad)) (p : P) → NotesOrNone Legal h0 pad (told_of cell_of r) h1 → r ≡ Ok p → own h1 ≡ own h0 ++ (pad, Ok (cell_of p)) ∷ []
+pub was_noted : {P : Type 0} (Legal : List (Wanted × Answer) → Type 0) (cell_of : P → TableId) (h0 h1 : HallView) (pad : Wanted) (r : Result P PassBad) (p : P) → NotesOrNone Legal h0 pad (told_of cell_of r) h1 → r ≡ Ok p → own h1 ≡ own h0 ++ (pad, Ok (cell_of p)) ∷ []
 was_noted Legal cell_of h0 h1 pad r p notes is = go (subst (λ r. NotesOrNone Legal h0 pad (told_of cell_of r) h1) is notes)
   where
     go : NotesOrNone Legal h0 pad (Ok (cell_of p)) h1 → own h1 ≡ own h0 ++ (pad, Ok (cell_of p)) ∷ []
@@ -149,7 +160,7 @@ was_noted Legal cell_of h0 h1 pad r p notes is = go (subst (λ r. NotesOrNone Le
     go (inr (short, same)) = absurd (not_given (cell_of p) passbad.NoMemory short)
 
 -- a session whose grant was given
-pub came_granted : (Legal : List (DirEntry × DirReply) → Type 0) (shows : ℕ → Type 0) (a b : Option (List Passed)) (d0 d1 : Known DirEntry DirReply) (hall : List (Text × Answer PadBad)) (made : List (PadEntry × PadReply)) (old new : Place) (drawn : Drawn) (ready : Ready) (now : ℕ) (res : Result Grant DirBad) (grant : Grant) (e : End)
+pub came_granted : (Legal : List (DirEntry × DirReply) → Type 0) (shows : ℕ → Type 0) (a b : Option (List Passed)) (d0 d1 : Known DirEntry DirReply) (hall : List (Wanted × Answer)) (made : List (PadEntry × PadReply)) (old new : Place) (drawn : Drawn) (ready : Ready) (now : ℕ) (res : Result Grant DirBad) (grant : Grant) (e : End)
     → own d0 ≡ [] → AsksOrLacks Legal d0 (asking drawn ready now) dirs.Grant res d1 → shows now → res ≡ Ok grant → Came shows a b [] hall made old new (Enter grant ready.resume ∷ []) e → Came shows a b (own d1) hall made old new (Ask drawn ready ∷ []) e
 came_granted Legal shows a b d0 d1 hall made old new drawn ready now res grant e none asks shown is p = record {
   log = Granted now (asking drawn ready now) (dirs.Grant res) ∷ p.log;
@@ -184,7 +195,7 @@ came_denied Legal shows a d0 d1 at drawn ready now res b e none asks shown is en
         (subst (λ b. Came shows a a [] [] [] at at (Ask drawn ready ∷ []) (end_of_dir b)) (sym short) (came_short shows a at (Ask drawn ready ∷ [])))
 
 -- what came before on the link alone
-pub came_behind : {X : Type 0} (shows : ℕ → Type 0) (a b c : Option (List Passed)) (desk : List (DirEntry × DirReply)) (hall : List (Text × Answer PadBad)) (made : List (PadEntry × PadReply)) (old mid new : Place) (due : List Duty) (x : X) (left : X → List Duty) (e : End)
+pub came_behind : {X : Type 0} (shows : ℕ → Type 0) (a b c : Option (List Passed)) (desk : List (DirEntry × DirReply)) (hall : List (Wanted × Answer)) (made : List (PadEntry × PadReply)) (old mid new : Place) (due : List Duty) (x : X) (left : X → List Duty) (e : End)
     → OnLink a b old mid due (Ok x) left → Came shows b c desk hall made mid new (left x) e → Came shows a c desk hall made old new due e
 came_behind shows a b c desk hall made old mid new due x left e p q = record {
   log = p.log ++ q.log;
@@ -258,8 +269,8 @@ pub both_some : {A : Type 0} (P : A → A → Type 0) (o : Option A) (a b : A) �
 both_some {A = A} P o a b is h = subst (λ (o : Option A). IfBoth o (Some b) P) (sym is) h
 
 -- the pass that is left is still the one that the registry gave
-pub one_kept : {A M : Type 0} (name : A → List ℕ) (cell : A → TableId) (begun : A → M) (hall : List (List ℕ × Answer PadBad)) (old new : Option A) → IfSome old (λ p. hall ≡ (name p, Ok (cell p)) ∷ []) → IfBoth old new (λ o n. (name n ≡ name o) × (cell n ≡ cell o) × (begun n ≡ begun o)) → IfSome new (λ p. hall ≡ (name p, Ok (cell p)) ∷ [])
+pub one_kept : {A M : Type 0} (name : A → List ℕ) (cell : A → TableId) (begun : A → M) (hall : List (Wanted × Answer)) (old new : Option A) → IfSome old (λ p. IsGiven hall (name p) (cell p)) → IfBoth old new (λ o n. (name n ≡ name o) × (cell n ≡ cell o) × (begun n ≡ begun o)) → IfSome new (λ p. IsGiven hall (name p) (cell p))
 one_kept name cell begun hall None None h k = tt
-one_kept name cell begun hall (Some o) (Some n) h k = h ∙ ap (λ (x : List ℕ). (x, Ok (cell o)) ∷ []) (sym k.0) ∙ ap (λ (x : TableId). (name n, Ok x) ∷ []) (sym k.1)
+one_kept name cell begun hall (Some o) (Some n) h k = (h.0, h.1 ∙ (ap (λ (x : List ℕ). (want x h.0, Ok (cell o)) ∷ []) (sym k.0) ∙ ap (λ (x : TableId). (want (name n) h.0, Ok x) ∷ []) (sym k.1)))
 one_kept name cell begun hall (Some o) None h k = absurd k
 one_kept name cell begun hall None (Some n) h k = absurd k

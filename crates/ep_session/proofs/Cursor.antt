@@ -242,7 +242,7 @@ granted_opens : (at : Place) (ready : Ready) (r : Result Grant DirBad) → at.re
 granted_opens at ready (Ok grant) z = (z, inl (Enter grant ready.resume, tt, refl))
 granted_opens at ready (Err b) z = refl
 
-entered_opens : (at : Place) (grant : Grant) (resume : Option Resume) (r : Answer PadBad) → at.rev ≡ at.start → Opens at (entered at grant resume r)
+entered_opens : (at : Place) (grant : Grant) (resume : Option Resume) (r : Answer) → at.rev ≡ at.start → Opens at (entered at grant resume r)
 entered_opens at grant None (Ok id) z = (z, inl (Login grant, tt, refl))
 entered_opens at grant (Some again) (Ok id) z = (z, inl (Rejoin grant again, tt, refl))
 entered_opens at grant resume (Err b) z = refl

@@ -7,3 +7,4 @@ pub mod Turning
 pub mod Opening
 pub mod Telling
 pub mod Cursor
+pub mod Refusing

@@ -31,7 +31,7 @@ use Rattle.ep_link.specs.declared.passed.LinkGot.TheVariants as got
 use Rattle.ep_session.specs.Beginning.{IsFirst, IsJoin, Joins, IsHoused, IsBegun}
 use Rattle.ep_session.specs.Ends.{end_of_dir, end_of_pass}
 use Rattle.ep_session.specs.Says.{IsInside}
-use Rattle.ep_session.specs.Session.{asking, joining, desk_of, hall_of, Did, Heard, Understood, Said, Unsaid, Called, Granted, Entered, Duty, Greet, Begin, Ask, Enter, Login, Rejoin, Hear, Understand, Take, Look, Show, Fetch, Tell, TellNop, Say, Outcome, Then, Ends, Runs, Does, heard, asked, begun, greeted, granted, entered, welcomed, rejoined, none_missed, took, looked, shown, unfit, changes_of, fetched, is_full, nops_due, news_due, due_at, counted, telling, told, nop_telling, nop_told, is_step, nowhere, calls_of, admitted, is_short}
+use Rattle.ep_session.specs.Session.{asking, joining, desk_of, hall_of, Did, Heard, Understood, Said, Unsaid, Called, Granted, Entered, Duty, Greet, Begin, Ask, Enter, Login, Rejoin, Hear, Understand, Take, Look, Show, Fetch, Tell, TellNop, Say, Outcome, Then, Ends, Runs, Does, heard, asked, begun, greeted, granted, entered, welcomed, rejoined, none_missed, took, looked, shown, unfit, changes_of, fetched, is_full, nops_due, news_due, due_at, counted, telling, told, nop_telling, nop_told, is_step, nowhere, calls_of, admitted, is_short, wanting}
 use Rattle.ep_session.specs.declared.end.End.{End}
 use Rattle.ep_session.specs.declared.place.Place.{Place}
 use Rattle.ep_session.specs.declared.ready.Ready.{Ready}
@@ -213,11 +213,11 @@ enter_law : (grant : Grant) (resume : Option Resume) (log : List Did) (out : Out
 enter_law grant resume [] out r = (refl, inl (refl, refl))
 enter_law grant resume (did ∷ log) out (inl (to, more, (Ok id, is, same), r)) =
     let p = join_law nowhere grant resume log out (moved to nowhere more (joining grant resume ∷ []) log out same [] r) in
-    subst (λ d. Enters grant resume (d ∷ log) out) (sym is) (p.0, inr (inr (id, ap (λ l. (grant.pad, Ok id) ∷ l) p.1, p.2)))
+    subst (λ d. Enters grant resume (d ∷ log) out) (sym is) (p.0, inr (inr (id, ap (λ l. (wanting grant resume, Ok id) ∷ l) p.1, p.2)))
 enter_law grant resume (did ∷ log) out (inl (to, more, (Err b, is, same), r)) = absurd (not_both to nowhere more _ same)
 enter_law grant resume (did ∷ log) out (inr (to, e, (Ok id, is, same), nil, isout)) = absurd (not_both nowhere to _ e (sym same))
 enter_law grant resume (did ∷ log) out (inr (to, e, (Err b, is, same), nil, isout)) =
-    subst (λ d. Enters grant resume (d ∷ log) out) (sym is) (subst (λ l. Enters grant resume (Entered grant.pad (Err b) ∷ l) out) (sym nil) (refl, inr (inl (b, refl, refl, isout ∙ same))))
+    subst (λ d. Enters grant resume (d ∷ log) out) (sym is) (subst (λ l. Enters grant resume (Entered (wanting grant resume) (Err b) ∷ l) out) (sym nil) (refl, inr (inl (b, refl, refl, isout ∙ same))))
 
 -- ---- the directory
 

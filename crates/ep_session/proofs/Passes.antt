@@ -14,8 +14,8 @@ use Rattle.ep_outside.specs.Disk.{Contents}
 use Rattle.ep_history.specs.declared.pad_bad.PadBad.{PadBad}
 use Rattle.ep_history.specs.declared.pad_bad.PadBad.TheVariants as bad
 use Rattle.ep_pad.specs.Asking.{Asks, AsksOrLacks}
-use Rattle.ep_pad.specs.Histories.{IsLegalFrom}
-use Rattle.ep_pad.specs.Held.{Held}
+use Rattle.ep_pad.specs.Lazy.{IsLegalFrom, Lazy}
+use Rattle.ep_pad.specs.declared.wanted.Wanted.{Wanted}
 use Rattle.ep_pad.specs.Halls.{Answer, Notes, NotesOrNone}
 use Rattle.ep_pad.specs.declared.entries.PadEntry.{PadEntry}
 use Rattle.ep_pad.specs.declared.entries.PadReply.{PadReply}
@@ -89,15 +89,15 @@ desk_legal Legal u v e kind r (inl asks) legal = asks.legal
 desk_legal Legal u v e kind r (inr (short, same)) legal = subst (λ (w : Known DirEntry DirReply). Legal (pairs w.seen)) (sym same) legal
 
 -- a call of a hall was made
-pub noted : {B : Type 0} (Legal : List (List ℕ × Answer B) → Type 0) (u v : Known (List ℕ) (Answer B)) (name : List ℕ) (r : Answer B) → Notes Legal u name r v → own v ≡ own u ++ (name, r) ∷ []
+pub noted : {B : Type 0} (Legal : List (Wanted × Answer B) → Type 0) (u v : Known Wanted (Answer B)) (name : Wanted) (r : Answer B) → Notes Legal u name r v → own v ≡ own u ++ (name, r) ∷ []
 noted Legal u v name r n = one_more u v name r n.number n.own
 
 -- a history that was legal is legal behind a call, or where memory ran out before it
-pub asked_legal : {D A : Type 0} (told_by : D → Option Contents) (failures : D → ℕ) (begun now : Held D) (v : Known PadEntry PadReply) (e : PadEntry) (kind : Result A PadBad → PadReply) (r : Result A PadBad) (w : Known PadEntry PadReply)
+pub asked_legal : {D A : Type 0} (told_by : D → Option Contents) (failures : D → ℕ) (begun now : Lazy D) (v : Known PadEntry PadReply) (e : PadEntry) (kind : Result A PadBad → PadReply) (r : Result A PadBad) (w : Known PadEntry PadReply)
     → now ≡ begun → AsksOrLacks (IsLegalFrom told_by failures begun) v e kind r w → IsLegalFrom told_by failures begun (pairs v.seen) → IsLegalFrom told_by failures now (pairs w.seen)
 asked_legal told_by failures begun now v e kind r w same (inl a) h = subst (λ b. IsLegalFrom told_by failures b (pairs w.seen)) (sym same) a.legal
 asked_legal told_by failures begun now v e kind r w same (inr x) h = subst (λ b. IsLegalFrom told_by failures b (pairs w.seen)) (sym same) (subst (λ (u : Known PadEntry PadReply). IsLegalFrom told_by failures begun (pairs u.seen)) (sym x.1) h)
 
 -- what is legal behind a machine is so behind the same one
-pub legal_on : {D : Type 0} {told : D → Option Contents} {failures : D → ℕ} {old new : Held D} (h : List (PadEntry × PadReply)) → new ≡ old → IsLegalFrom told failures old h → IsLegalFrom told failures new h
+pub legal_on : {D : Type 0} {told : D → Option Contents} {failures : D → ℕ} {old new : Lazy D} (h : List (PadEntry × PadReply)) → new ≡ old → IsLegalFrom told failures old h → IsLegalFrom told failures new h
 legal_on {told = told} {failures = failures} h same legal = subst (λ m. IsLegalFrom told failures m h) (sym same) legal

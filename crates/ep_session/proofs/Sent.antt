@@ -320,7 +320,7 @@ granted_steady : (at : Place) (ready : Ready) (r : Result Grant DirBad) → Stea
 granted_steady at ready (Ok grant) = (refl, tt)
 granted_steady at ready (Err b) = tt
 
-entered_steady : (at : Place) (grant : Grant) (resume : Option Resume) (r : Answer PadBad) → Steady at (entered at grant resume r)
+entered_steady : (at : Place) (grant : Grant) (resume : Option Resume) (r : Answer) → Steady at (entered at grant resume r)
 entered_steady at grant None (Ok id) = (refl, tt)
 entered_steady at grant (Some again) (Ok id) = (refl, tt)
 entered_steady at grant resume (Err b) = tt

@@ -101,7 +101,7 @@ granted_early : (at : Place) (ready : Ready) (r : Result Grant DirBad) → Early
 granted_early at ready (Ok grant) = λ a. a
 granted_early at ready (Err b) = tt
 
-entered_early : (at : Place) (grant : Grant) (resume : Option Resume) (r : Answer PadBad) → Early (entered at grant resume r)
+entered_early : (at : Place) (grant : Grant) (resume : Option Resume) (r : Answer) → Early (entered at grant resume r)
 entered_early at grant None (Ok id) = λ a. a
 entered_early at grant (Some again) (Ok id) = λ a. a
 entered_early at grant resume (Err b) = tt

@@ -2,7 +2,6 @@
 use Rattle.std.specs.Prelude.{ℕ, ◌≡◌, ◌⊎◌, List, [], ◌∷◌, Option, Some, None, Result, Ok, Err}
 use Rattle.atomic_table.specs.Seated.{TableId}
 use Rattle.ep_units.specs.declared.grant.Grant.{Grant}
-use Rattle.ep_history.specs.declared.pad_bad.PadBad.{PadBad}
 use Rattle.ep_dir_records.specs.declared.dir_bad.DirBad.{DirBad}
 use Rattle.ep_dir_records.specs.declared.ids.Drawn.{Drawn}
 use Rattle.ep_groups.specs.declared.entries.DirReply.TheVariants as dirs
@@ -14,7 +13,7 @@ use Rattle.ep_wire_words.specs.declared.client.ClientMsg.TheVariants as msgs
 use Rattle.ep_wire_words.specs.declared.client.Resume.{Resume}
 use Rattle.ep_link.specs.declared.passed.LinkGot.TheVariants as got
 use Rattle.ep_session.specs.Ends.{end_of_dir, end_of_pass}
-use Rattle.ep_session.specs.Session.{Did, Heard, Understood, Outcome, Ends, asking, calls_of, desk_of, hall_of, nowhere}
+use Rattle.ep_session.specs.Session.{Did, Heard, Understood, Outcome, Ends, asking, calls_of, desk_of, hall_of, nowhere, wanting}
 use Rattle.ep_session.specs.declared.ready.Ready.{Ready}
 
 -- the log begins with receives that gave nothing, and then the first message, which says this
@@ -37,8 +36,8 @@ Joins grant resume (c ∷ calls) = IsJoin grant resume c.0
 abbrev pub IsHoused : Grant → Option Resume → List Did → Outcome → Type 0
 IsHoused grant resume log out =
     ((hall_of log ≡ []) × (calls_of log ≡ []))
-    ⊎ (((bad : PassBad PadBad) × (hall_of log ≡ (grant.pad, Err bad) ∷ []) × (calls_of log ≡ []) × (out ≡ Ends nowhere (end_of_pass bad)))
-    ⊎ ((id : TableId) × (hall_of log ≡ (grant.pad, Ok id) ∷ []) × Joins grant resume (calls_of log)))
+    ⊎ (((bad : PassBad) × (hall_of log ≡ (wanting grant resume, Err bad) ∷ []) × (calls_of log ≡ []) × (out ≡ Ends nowhere (end_of_pass grant resume bad)))
+    ⊎ ((id : TableId) × (hall_of log ≡ (wanting grant resume, Ok id) ∷ []) × Joins grant resume (calls_of log)))
 
 -- the directory was not asked; or it was asked once, by the first message, and refused, and the session ended so; or it gave a grant
 abbrev pub IsBegun : Drawn → List Did → Outcome → Type 0

@@ -1,13 +1,16 @@
 -- Which end a refusal brings, and what comes of an end.
-use Rattle.std.specs.Prelude.{Bool, true, false, if◌then◌else◌, Option, Some, None}
+use Rattle.std.specs.Prelude.{Bool, true, false, not, if◌then◌else◌, Option, Some, None}
+use Rattle.ep_units.specs.declared.grant.Grant.{Grant}
 use Rattle.ep_dir_records.specs.declared.dir_bad.DirBad.{DirBad}
 use Rattle.ep_dir_records.specs.declared.dir_bad.DirBad.TheVariants as dir
+use Rattle.ep_history.specs.Refusals.{is_other, makes_none}
 use Rattle.ep_history.specs.declared.pad_bad.PadBad.{PadBad}
 use Rattle.ep_history.specs.declared.pad_bad.PadBad.TheVariants as bad
 use Rattle.ep_history.specs.declared.seat.Why.{Why}
 use Rattle.ep_history.specs.declared.seat.Why.TheVariants as why
 use Rattle.ep_wire_words.specs.declared.bad.WireBad.{WireBad}
 use Rattle.ep_wire_words.specs.declared.bad.WireBad.TheVariants as wire
+use Rattle.ep_wire_words.specs.declared.client.Resume.{Resume}
 use Rattle.ep_wire_words.specs.declared.server.Word.{Word}
 use Rattle.ep_wire_words.specs.declared.server.Word.TheVariants as word
 use Rattle.ep_pad.specs.declared.pass_bad.PassBad.{PassBad}
@@ -52,12 +55,22 @@ end_of_dir (dir.Kept key) = ends.Kept key
 end_of_dir dir.NoMemory = ends.NoMemory
 end_of_dir b = ends.Directory b
 
+-- who comes makes an absent pad: by a login, but to a group's pad or by its read-only id
+abbrev pub may_make : Grant → Option Resume → Bool
+may_make grant None = not (makes_none grant)
+may_make grant (Some again) = false
+
+-- why the others are refused where nobody has made the pad
+abbrev pub absent_fault : Grant → Option Resume → PadBad
+absent_fault grant None = bad.Denied 4
+absent_fault grant (Some again) = if is_other grant.author again.author then bad.Denied 7 else bad.Gone
+
 -- the end that a refused pass brings
-abbrev pub end_of_pass : PassBad PadBad → End
-end_of_pass (pass.Pads n) = ends.Pads n
-end_of_pass (pass.Shelf count) = ends.ShelfFault count
-end_of_pass (pass.Pad b) = end_of b
-end_of_pass pass.NoMemory = ends.NoMemory
+abbrev pub end_of_pass : Grant → Option Resume → PassBad → End
+end_of_pass grant resume (pass.Pads n) = ends.Pads n
+end_of_pass grant resume (pass.Shelf count) = ends.ShelfFault count
+end_of_pass grant resume pass.Absent = end_of (absent_fault grant resume)
+end_of_pass grant resume pass.NoMemory = ends.NoMemory
 
 -- what the closing says, where it has one
 abbrev pub closing_of_bad : BadKind → Word

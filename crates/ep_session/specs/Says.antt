@@ -2,13 +2,12 @@
 use Rattle.std.specs.Prelude.{ℕ, ◌≡◌, ◌⊎◌, ◌≤◌, List, [], ◌∷◌, ◌++◌, Option, Some, None, Result, Ok, Err}
 use Rattle.std.specs.List.{AllByRecursion}
 use Rattle.ep_outside.specs.Outside.{HasRisen}
-use Rattle.ep_units.specs.Text.{Text}
 use Rattle.ep_cell.specs.Passes.{Known}
-use Rattle.ep_history.specs.declared.pad_bad.PadBad.{PadBad}
 use Rattle.ep_history.specs.declared.pad_bad.PadBad.TheVariants as bad
 use Rattle.ep_dir_records.specs.declared.ids.Drawn.{Drawn}
 use Rattle.ep_groups.specs.declared.entries.DirEntry.{DirEntry}
 use Rattle.ep_groups.specs.declared.entries.DirReply.{DirReply}
+use Rattle.ep_pad.specs.declared.wanted.Wanted.{Wanted}
 use Rattle.ep_pad.specs.Halls.{Answer}
 use Rattle.ep_pad.specs.declared.entries.PadEntry.{PadEntry}
 use Rattle.ep_pad.specs.declared.entries.PadReply.{PadReply}
@@ -154,7 +153,7 @@ abbrev pub IsFault : End → ℕ → ℕ → Type 0
 IsFault e before now = IsCaused {X = Unit {0}} (Err e) before now
 
 -- how a session came to its end: what it did from these duties on, by the link's traffic where it tells, by all calls of its passes, and by moments that were shown
-pub record Came (shows : ℕ → Type 0) (sent0 sent1 : Option (List Passed)) (desk : List (DirEntry × DirReply)) (hall : List (Text × Answer PadBad)) (made : List (PadEntry × PadReply)) (old new : Place) (due : List Duty) (e : End) : Type 0 where
+pub record Came (shows : ℕ → Type 0) (sent0 sent1 : Option (List Passed)) (desk : List (DirEntry × DirReply)) (hall : List (Wanted × Answer)) (made : List (PadEntry × PadReply)) (old new : Place) (due : List Duty) (e : End) : Type 0 where
   pub log : List Did
   pub traffic : Adds sent0 sent1 (traffic_of log)
   pub desk_calls : desk ≡ desk_of log

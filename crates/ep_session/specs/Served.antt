@@ -1,11 +1,11 @@
 -- What a session was.
 use Rattle.std.specs.Prelude.{ℕ, ◌≡◌, ◌&&◌, Bool, true, false, List, [], ◌∷◌, ◌++◌, Option, Some, None, Result, Ok, Err, if◌then◌else◌}
-use Rattle.ep_units.specs.Text.{Text}
 use Rattle.ep_units.specs.declared.session.Session.{Session}
 use Rattle.ep_history.specs.declared.pad_bad.PadBad.{PadBad}
 use Rattle.ep_dir_records.specs.declared.ids.Drawn.{Drawn}
 use Rattle.ep_groups.specs.declared.entries.DirEntry.{DirEntry}
 use Rattle.ep_groups.specs.declared.entries.DirReply.{DirReply}
+use Rattle.ep_pad.specs.declared.wanted.Wanted.{Wanted}
 use Rattle.ep_pad.specs.Halls.{Answer}
 use Rattle.ep_pad.specs.declared.entries.PadEntry.{PadEntry}
 use Rattle.ep_pad.specs.declared.entries.PadEntry.TheVariants as entry
@@ -47,7 +47,7 @@ abbrev pub session_of : Place → Option Session
 session_of at = if at.inside then Some at.me else None
 
 -- a whole session: how it came to what it came to, its closing, and its leaving
-pub record Served (shows : ℕ → Type 0) (sent0 sent1 : Option (List Passed)) (drawn : Drawn) (desk : List (DirEntry × DirReply)) (hall : List (Text × Answer PadBad)) (made : List (PadEntry × PadReply)) (session : Option Session) (start cursor taken : ℕ) (end : End) : Type 0 where
+pub record Served (shows : ℕ → Type 0) (sent0 sent1 : Option (List Passed)) (drawn : Drawn) (desk : List (DirEntry × DirReply)) (hall : List (Wanted × Answer)) (made : List (PadEntry × PadReply)) (session : Option Session) (start cursor taken : ℕ) (end : End) : Type 0 where
   pub at : Place
   pub reason : End
   pub sent : Option (List Passed)

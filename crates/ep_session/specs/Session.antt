@@ -27,7 +27,8 @@ use Rattle.ep_pad_state.specs.declared.answers.CatchUp.{CatchUp}
 use Rattle.ep_pad_state.specs.declared.answers.Fetched.{Fetched}
 use Rattle.ep_pad_state.specs.declared.answers.Piece.{Piece}
 use Rattle.ep_pad_state.specs.declared.answers.Welcome.{Welcome}
-use Rattle.ep_pad.specs.Halls.{Answer}
+use Rattle.ep_pad.specs.declared.wanted.Wanted.{Wanted}
+use Rattle.ep_pad.specs.Halls.{Answer, want}
 use Rattle.ep_pad.specs.declared.entries.PadEntry.{PadEntry}
 use Rattle.ep_pad.specs.declared.entries.PadEntry.TheVariants as entry
 use Rattle.ep_pad.specs.declared.entries.PadReply.{PadReply}
@@ -48,7 +49,7 @@ use Rattle.ep_link.specs.declared.passed.LinkGot.{LinkGot}
 use Rattle.ep_link.specs.declared.passed.LinkGot.TheVariants as got
 use Rattle.ep_link.specs.declared.passed.Passed.{Passed}
 use Rattle.ep_link.specs.declared.passed.Passed.TheVariants.{Sent}
-use Rattle.ep_session.specs.Ends.{end_of, end_of_wire, end_of_dir, end_of_pass}
+use Rattle.ep_session.specs.Ends.{end_of, end_of_wire, end_of_dir, end_of_pass, may_make}
 use Rattle.ep_session.specs.declared.end.BadKind.TheVariants as kind
 use Rattle.ep_session.specs.declared.end.End.{End}
 use Rattle.ep_session.specs.declared.end.End.TheVariants as ends
@@ -63,7 +64,7 @@ pub data Did : Type 0 where
   Said : ServerMsg → Did
   Unsaid : ℕ → Did
   Granted : ℕ → DirEntry → DirReply → Did
-  Entered : Text → Answer PadBad → Did
+  Entered : Wanted → Answer → Did
   Called : PadEntry → PadReply → Did
 
 -- One thing that is due: to receive the first message, and to read it; to ask the directory for a grant; to ask for a pass of the pad;
@@ -145,9 +146,13 @@ abbrev pub joining : Grant → Option Resume → Duty
 joining grant None = Login grant
 joining grant (Some again) = Rejoin grant again
 
-abbrev pub entered : Place → Grant → Option Resume → Answer PadBad → Outcome
+-- the granted pad is asked for, by who makes it where it is absent or does not
+abbrev pub wanting : Grant → Option Resume → Wanted
+wanting grant resume = want grant.pad (may_make grant resume)
+
+abbrev pub entered : Place → Grant → Option Resume → Answer → Outcome
 entered at grant resume (Ok id) = Then at (joining grant resume ∷ [])
-entered at grant resume (Err bad) = Ends at (end_of_pass bad)
+entered at grant resume (Err bad) = Ends at (end_of_pass grant resume bad)
 
 -- where a login leads, and a resumption behind the revision that the client knows
 abbrev pub welcome_place : Welcome → Place
@@ -275,7 +280,7 @@ abbrev pub Does : Place → Duty → Did → Outcome → Type 0
 Does at (Greet drawn) did out = (g : LinkGot) × (n : ℕ) × (did ≡ Heard g n) × (out ≡ greeted at drawn g n)
 Does at (Begin drawn text) did out = (r : Result ClientMsg WireBad) × ReadsClient text most_bytes r × (did ≡ Understood text r) × (out ≡ begun at drawn r)
 Does at (Ask drawn ready) did out = (now : ℕ) × (r : Result Grant DirBad) × (did ≡ Granted now (asking drawn ready now) (dirs.Grant r)) × (out ≡ granted at ready r)
-Does at (Enter grant resume) did out = (r : Answer PadBad) × (did ≡ Entered grant.pad r) × (out ≡ entered at grant resume r)
+Does at (Enter grant resume) did out = (r : Answer) × (did ≡ Entered (wanting grant resume) r) × (out ≡ entered at grant resume r)
 Does at (Login grant) did out = (now : ℕ) × (r : Result Welcome PadBad) × (did ≡ Called (entry.Login grant now) (reply.Welcome r)) × (out ≡ welcomed at grant r)
 Does at (Rejoin grant again) did out = (now : ℕ) × (r : Result CatchUp PadBad) × (did ≡ Called (entry.Resume grant again.rev again.birth again.author now) (reply.CatchUp r)) × (out ≡ rejoined at again.rev r)
 Does at Hear did out = (g : LinkGot) × (n : ℕ) × (did ≡ Heard g n) × (out ≡ heard at g n)
@@ -314,7 +319,7 @@ desk_of [] = []
 desk_of (Granted now e r ∷ log) = (e, r) ∷ desk_of log
 desk_of (d ∷ log) = desk_of log
 
-abbrev pub hall_of : List Did → List (Text × Answer PadBad)
+abbrev pub hall_of : List Did → List (Wanted × Answer)
 hall_of [] = []
 hall_of (Entered pad r ∷ log) = (pad, r) ∷ hall_of log
 hall_of (d ∷ log) = hall_of log

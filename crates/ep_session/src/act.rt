@@ -3,7 +3,7 @@
 ghost use Rattle.std.specs.Prelude.{◌≡◌, ◌≤◌, ℕ, Option, List, [], ◌∷◌, IfOk};
 ghost use Rattle.ep_cell.specs.History.{pairs};
 ghost use Rattle.ep_cs.specs.Made.{AreMade};
-ghost use Rattle.ep_pad.specs.Histories.{IsLegalFrom};
+ghost use Rattle.ep_pad.specs.Lazy.{IsLegalFrom};
 ghost use Rattle.ep_slider.specs.Slides.{AreSlides};
 ghost use Rattle.ep_link.specs.declared.passed.Passed.{Passed};
 ghost use Rattle.ep_session.specs.Session.{Look, Show, Take, changes_of, unfit};

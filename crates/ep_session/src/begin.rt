@@ -2,7 +2,7 @@
 
 ghost use Rattle.std.specs.Prelude.{◌≡◌, ◌⊎◌, ◌≤◌, ℕ, [], ◌∷◌, Err};
 ghost use Rattle.ep_cell.specs.History.{pairs};
-ghost use Rattle.ep_pad.specs.Histories.{IsLegalFrom};
+ghost use Rattle.ep_pad.specs.Lazy.{IsLegalFrom};
 ghost use Rattle.ep_dir_records.specs.declared.ids.Drawn.{Drawn as AnyDrawn};
 ghost use Rattle.ep_session.specs.Session.{Ask, Fetch, Greet, Hear, Login, Rejoin, admitted, is_short, nowhere};
 ghost use Rattle.ep_session.specs.Says.{BegunAs, Done, Greets, IsCaused, OnLink, first_of};

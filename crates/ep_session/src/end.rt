@@ -5,7 +5,7 @@ ghost use Rattle.ep_session.specs.Ends.{closing_of, end_of_dead, is_gone, is_lef
 
 use ep_dir_records::DirBad;
 use ep_history::Why;
-use ep_pad::{PadBad, PassBad};
+use ep_pad::PadBad;
 use ep_slider::SlideBad;
 use ep_units::{NoMemory, Session, Units};
 use ep_wire_words::{WireBad, Word};
@@ -76,22 +76,6 @@ impl From<DirBad> for End {
             DirBad::NoSession => End::Directory(DirBad::NoSession),
             DirBad::Past(now) => End::Directory(DirBad::Past(now)),
             DirBad::BadName => End::Directory(DirBad::BadName),
-        }
-    }
-}
-
-impl From<PassBad<PadBad>> for End {
-    ghost use Rattle.std.specs.Prelude.{◌≡◌};
-    ghost use Rattle.ep_session.specs.Ends.{end_of_pass};
-
-    ghost from_gives = { λ bad e. e ≡ end_of_pass bad };
-
-    fn from(bad: PassBad<PadBad>) -> End {
-        match bad {
-            PassBad::Pads(n) => End::Pads(n),
-            PassBad::Shelf(count) => End::ShelfFault(count),
-            PassBad::Pad(bad) => End::from(bad),
-            PassBad::NoMemory => End::NoMemory,
         }
     }
 }

@@ -2,7 +2,7 @@
 
 ghost use Rattle.std.specs.Prelude.{◌≡◌, ◌≤◌, [], ◌∷◌, if◌then◌else◌};
 ghost use Rattle.ep_cell.specs.History.{pairs};
-ghost use Rattle.ep_pad.specs.Histories.{IsLegalFrom};
+ghost use Rattle.ep_pad.specs.Lazy.{IsLegalFrom};
 ghost use Rattle.ep_session.specs.Session.{Fetch};
 ghost use Rattle.ep_session.specs.Says.{Done, IsCaused, no_moment};
 

@@ -1,8 +1,13 @@
 //! What the walk of a session implies.
 
-ghost use Rattle.std.specs.Prelude.{ℕ, List, [], ◌∷◌, ◌++◌};
+ghost use Rattle.std.specs.Prelude.{◌≡◌, ℕ, false, List, [], ◌∷◌, ◌++◌, Some, None};
 ghost use Rattle.ep_dir_records.specs.declared.ids.Drawn.{Drawn};
+ghost use Rattle.ep_history.specs.Pad.{PadState};
+ghost use Rattle.ep_history.specs.Refusals.{first_fault, full_faults, login_fault, resume_fault};
 ghost use Rattle.ep_link.specs.declared.passed.LinkGot.{LinkGot};
+ghost use Rattle.ep_units.specs.declared.grant.Grant.{Grant};
+ghost use Rattle.ep_wire_words.specs.declared.client.Resume.{Resume};
+ghost use Rattle.ep_session.specs.Ends.{absent_fault, may_make};
 ghost use Rattle.ep_session.specs.Acts.{AreCalled, IsReady};
 ghost use Rattle.ep_session.specs.Beginning.{IsBegun};
 ghost use Rattle.ep_session.specs.Output.{IsCursor, IsOutput, place_at};
@@ -12,6 +17,14 @@ ghost use Rattle.ep_session.specs.Session.{Did, Greet, Heard, Outcome, Runs, cal
 /// first call of the pad logs in or resumes by that grant. A session that was refused there ended so.
 pub fn begins_in_order()
     ensures { (drawn : Drawn) (log : List Did) (out : Outcome) → Runs nowhere (Greet drawn ∷ []) log out → IsBegun drawn log out }
+{}
+
+/// Who is told that nobody has made the pad is refused as by the rules where no pad is: a login that makes none, and a
+/// resumption, unless the pad is full.
+pub fn refuses_where_none_is()
+    ensures login { (pad : PadState) (grant : Grant) → pad.present ≡ false → may_make grant None ≡ false → login_fault pad grant ≡ Some (absent_fault grant None) }
+    ensures resume { (pad : PadState) (grant : Grant) (again : Resume) → pad.present ≡ false → first_fault (full_faults pad grant.author) ≡ None
+        → resume_fault pad grant again.rev again.birth again.author ≡ Some (absent_fault grant (Some again)) }
 {}
 
 /// Each edit that was read is brought to the pad, and each request for steps is asked of it, in order; the last may be

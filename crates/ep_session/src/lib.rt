@@ -9,6 +9,7 @@ mod act;
 mod begin;
 mod drawing;
 mod end;
+mod entering;
 mod fetch;
 mod hear;
 mod laws;
@@ -21,7 +22,8 @@ mod turn;
 
 pub use end::{BadKind, End};
 pub use laws::{
-    asks_as_told, begins_in_order, cursor_counts, sends_its_output, tells_before_hearing,
+    asks_as_told, begins_in_order, cursor_counts, refuses_where_none_is, sends_its_output,
+    tells_before_hearing,
 };
 pub use place::Place;
 pub use ready::Ready;

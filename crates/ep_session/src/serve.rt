@@ -1,15 +1,16 @@
 //! A session on its pad: the login or the resumption, and then turns until it ends.
 
-ghost use Rattle.std.specs.Prelude.{◌≡◌, ◌≤◌, [], ◌∷◌, Ok, None, IfSome};
+ghost use Rattle.std.specs.Prelude.{◌≡◌, ◌≤◌, [], ◌∷◌, None, IfSome};
 ghost use Rattle.ep_cell.specs.History.{pairs};
 ghost use Rattle.ep_groups.specs.History.{IsLegal};
-ghost use Rattle.ep_pad.specs.Histories.{IsLegalFrom};
-ghost use Rattle.ep_session.specs.Passing.{own, own_of};
+ghost use Rattle.ep_pad.specs.Lazy.{IsLegalFrom};
+ghost use Rattle.ep_session.specs.Passing.{IsGiven, own, own_of};
 ghost use Rattle.ep_session.specs.Session.{Ask, Enter, Fetch, Hear, joining};
 ghost use Rattle.ep_session.specs.Says.{Came, Done, Ended, IsCaused, IsFault};
 
 use crate::begin::{log_in, rejoin};
 use crate::end::End;
+use crate::entering::{end_of_pass, may_make};
 use crate::fetch::catch_up;
 use crate::place::Place;
 use crate::ready::Ready;
@@ -122,14 +123,14 @@ pub fn in_house<R: Wait, L: Link, P: PadPort, C: Clock>(
     ensures of { IfSome result.pass (λ pass. P.is_of pads.now pass) }
     ensures limits { IfSome result.pass (λ pass. (P.begun pass).limits ≡ P.limits_of pads.now) }
     ensures legal { IfSome result.pass (λ pass. IsLegalFrom P.Store.told P.Store.failures (P.begun pass) (pairs (P.known pass).seen)) }
-    ensures one { IfSome result.pass (λ pass. own (P.hall_known result.hall) ≡ (P.name_of pass, Ok (P.cell_of pass)) ∷ []) }
+    ensures one { IfSome result.pass (λ pass. IsGiven (own (P.hall_known result.hall)) (P.name_of pass) (P.cell_of pass)) }
     ensures came { Came (C.may_show clock.now) (L.traffic link.old) (L.traffic link.new) [] (own (P.hall_known result.hall)) (own_of P.known result.pass) place.old place.new (Enter grant.now resume ∷ []) result.end }
     ensures stays { result.pass ≡ None → place.new ≡ place.old }
     ensures cause { IsFault result.end (L.failures link.old) (L.failures link.new) }
     ensures later { L.failures link.old ≤ L.failures link.new }
 {
     let mut hall = pads.hall(rt);
-    match pads.pass(rt, &mut hall, &grant.pad) {
+    match pads.pass(rt, &mut hall, &grant.pad, may_make(grant, &resume)) {
         Ok(mut pass) => {
             let end = on_pad(
                 rt, alloc, pads, &mut pass, link, clock, place, grant, resume,
@@ -143,7 +144,7 @@ pub fn in_house<R: Wait, L: Link, P: PadPort, C: Clock>(
         Err(bad) => Housed {
             hall,
             pass: None,
-            end: End::from(bad),
+            end: end_of_pass(grant, &resume, bad),
         },
     }
 }
@@ -175,7 +176,7 @@ pub fn at_desk<R: Wait, L: Link, P: PadPort, G: DirPort, C: Clock>(
     ensures of { IfSome result.pass (λ pass. P.is_of pads.now pass) }
     ensures limits { IfSome result.pass (λ pass. (P.begun pass).limits ≡ P.limits_of pads.now) }
     ensures legal { IfSome result.pass (λ pass. IsLegalFrom P.Store.told P.Store.failures (P.begun pass) (pairs (P.known pass).seen)) }
-    ensures one { IfSome result.pass (λ pass. own_of P.hall_known result.hall ≡ (P.name_of pass, Ok (P.cell_of pass)) ∷ []) }
+    ensures one { IfSome result.pass (λ pass. IsGiven (own_of P.hall_known result.hall) (P.name_of pass) (P.cell_of pass)) }
     ensures came { Came (C.may_show clock.now) (L.traffic link.old) (L.traffic link.new) (own_of G.known result.desk) (own_of P.hall_known result.hall) (own_of P.known result.pass) place.old place.new (Ask drawn ready ∷ []) result.end }
     ensures stays { result.pass ≡ None → place.new ≡ place.old }
     ensures cause { IsFault result.end (L.failures link.old) (L.failures link.new) }

@@ -1,13 +1,13 @@
 //! One connection, served from its first message to its end.
 
-ghost use Rattle.std.specs.Prelude.{◌≡◌, ◌≤◌, ◌&&◌, [], ◌∷◌, Ok, None, false, true, IfSome};
+ghost use Rattle.std.specs.Prelude.{◌≡◌, ◌≤◌, ◌&&◌, [], ◌∷◌, None, false, true, IfSome};
 ghost use Rattle.ep_cell.specs.History.{pairs};
 ghost use Rattle.ep_groups.specs.History.{IsLegal};
-ghost use Rattle.ep_pad.specs.Histories.{IsLegalFrom};
+ghost use Rattle.ep_pad.specs.Lazy.{IsLegalFrom};
 ghost use Rattle.ep_dir_records.specs.declared.ids.Drawn.{Drawn as AnyDrawn};
 ghost use Rattle.ep_session.specs.Drawing.{DrawsAll};
 ghost use Rattle.ep_session.specs.Ends.{closing_of, leaves};
-ghost use Rattle.ep_session.specs.Passing.{IfBoth, own, own_of};
+ghost use Rattle.ep_session.specs.Passing.{IfBoth, IsGiven, own, own_of};
 ghost use Rattle.ep_session.specs.Session.{Greet, nowhere};
 ghost use Rattle.ep_session.specs.Says.{Came, IsCaused, IsFault};
 ghost use Rattle.ep_session.specs.Served.{Closes, LeavesBy, Served, last_of};
@@ -138,7 +138,7 @@ fn seat<R: Wait, L: Link, P: PadPort, G: DirPort, C: Clock>(
     ensures of { IfSome result.pass (λ pass. P.is_of pads.now pass) }
     ensures limits { IfSome result.pass (λ pass. (P.begun pass).limits ≡ P.limits_of pads.now) }
     ensures legal { IfSome result.pass (λ pass. IsLegalFrom P.Store.told P.Store.failures (P.begun pass) (pairs (P.known pass).seen)) }
-    ensures one { IfSome result.pass (λ pass. own_of P.hall_known result.hall ≡ (P.name_of pass, Ok (P.cell_of pass)) ∷ []) }
+    ensures one { IfSome result.pass (λ pass. IsGiven (own_of P.hall_known result.hall) (P.name_of pass) (P.cell_of pass)) }
     ensures came { Came (C.may_show clock.now) (L.traffic link.old) (L.traffic link.new) (own_of G.known result.desk) (own_of P.hall_known result.hall) (own_of P.known result.pass) nowhere place.new (Greet drawn ∷ []) result.end }
     ensures stays { result.pass ≡ None → place.new.inside ≡ false }
     ensures cause { IsFault result.end (L.failures link.old) (L.failures link.new) }
@@ -175,7 +175,7 @@ pub fn serve_session<R: Wait, L: Link, P: PadPort, G: DirPort, C: Clock, D: Draw
     ensures limits { IfSome result.pass (λ pass. (P.begun pass).limits ≡ P.limits_of pads.now) }
     ensures legal { IfSome result.pass (λ pass. IsLegalFrom P.Store.told P.Store.failures (P.begun pass) (pairs (P.known pass).seen)) }
     // The pass is the one that the registry gave.
-    ensures one { IfSome result.pass (λ pass. own_of P.hall_known result.hall ≡ (P.name_of pass, Ok (P.cell_of pass)) ∷ []) }
+    ensures one { IfSome result.pass (λ pass. IsGiven (own_of P.hall_known result.hall) (P.name_of pass) (P.cell_of pass)) }
     // A fault of the link is told with its count, which rose.
     ensures cause { IsFault result.end (L.failures link.old) (L.failures link.new) }
     ensures later { L.failures link.old ≤ L.failures link.new }

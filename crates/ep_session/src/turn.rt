@@ -2,7 +2,7 @@
 
 ghost use Rattle.std.specs.Prelude.{◌≡◌, ◌≤◌, [], ◌∷◌};
 ghost use Rattle.ep_cell.specs.History.{pairs};
-ghost use Rattle.ep_pad.specs.Histories.{IsLegalFrom};
+ghost use Rattle.ep_pad.specs.Lazy.{IsLegalFrom};
 ghost use Rattle.ep_session.specs.Session.{Hear};
 ghost use Rattle.ep_session.specs.Says.{Done, Ended, IsCaused, IsFault};
 

@@ -13,7 +13,7 @@ use std::sync::Wait;
 /// Somebody logs in with a grant.
 pub fn log_in<R: Wait, P: PadPort>(rt: &R, pads: &P, grant: &Grant, now: u64) {
     let mut hall = pads.hall(rt);
-    if let Ok(mut pass) = pads.pass(rt, &mut hall, &grant.pad) {
+    if let Ok(mut pass) = pads.pass(rt, &mut hall, &grant.pad, true) {
         drop(ep_pad_calls::login(rt, pads, &mut pass, grant, now));
     }
 }
@@ -95,7 +95,7 @@ pub fn call_pad<R: Wait, P: PadPort>(
     call: &Value,
 ) -> Result<(), Stop> {
     let mut hall = pads.hall(rt);
-    match pads.pass(rt, &mut hall, pad) {
+    match pads.pass(rt, &mut hall, pad, true) {
         Ok(mut pass) => make_call(rt, alloc, pads, &mut pass, call),
         Err(_) => Ok(()),
     }

@@ -9,7 +9,7 @@ use std::sync::Wait;
 
 fn status<R: Wait, P: PadPort>(rt: &R, pads: &P, pad: &PadId) -> Option<PadStatus> {
     let mut hall = pads.hall(rt);
-    match pads.pass(rt, &mut hall, pad) {
+    match pads.pass(rt, &mut hall, pad, false) {
         Ok(mut pass) => ep_pad_calls::status(rt, pads, &mut pass).ok(),
         Err(_) => None,
     }

@@ -72,6 +72,10 @@ impl<H: Shelf + Drop, R: Eprint + Clock + Drop> Shelf for ShownShelf<H, R> {
         Ok(names)
     }
 
+    fn has(&mut self, name: &PadId) -> Result<bool, ShelfBad> {
+        self.shelf.has(name)
+    }
+
     fn open(&mut self, name: &PadId) -> Result<H::D, ShelfBad> {
         self.show();
         let opened = self.shelf.open(name);

@@ -93,7 +93,8 @@ fn is_refused(rt: &HostRuntime, folder: &str, id: &PadId) -> Result<bool, Fail> 
     let mut shelf = FileShelf::open_at(rt, folder)?;
     let is_closed = matches!(shelf.open(id), Err(ShelfBad::Failed)) && shelf.faults() == 1;
     let is_unlisted = matches!(shelf.names(), Err(ShelfBad::Failed)) && shelf.faults() == 2;
-    Ok(is_closed && is_unlisted)
+    let is_unseen = matches!(shelf.has(id), Err(ShelfBad::Failed)) && shelf.faults() == 3;
+    Ok(is_closed && is_unlisted && is_unseen)
 }
 
 #[test]
@@ -106,6 +107,21 @@ fn one_server_a_folder(rt: HostRuntime) -> Result<(), Fail> {
     assert!(rt; opens(&rt, "locked.shelf", &id)?);
     assert!(rt; is_refused(&rt, "no/such/folder", &id)?);
     Ok(fs::remove_dir_all(&rt, "locked.shelf")?)
+}
+
+#[test]
+fn what_a_folder_has(rt: HostRuntime) -> Result<(), Fail> {
+    fresh_folder(&rt, "having.shelf")?;
+    fs::create_dir(&rt, "having.shelf/62.pad")?;
+    symlink(&rt, "nowhere", "having.shelf/63.pad")?;
+    let mut shelf = FileShelf::open_at(&rt, "having.shelf")?;
+    make(rt.alloc(), &mut shelf, "a")?;
+    for (name, there) in [("a", true), ("b", true), ("c", true), ("d", false)] {
+        let id = pad(rt.alloc(), name)?;
+        assert_eq!(rt; shelf.has(&id)?, there, "at {name}");
+    }
+    assert!(rt; lists(rt.alloc(), &mut shelf, &["a", "b", "c"])?);
+    Ok(fs::remove_dir_all(&rt, "having.shelf")?)
 }
 
 // It reads as a file that is no journal, and takes nothing.

@@ -156,7 +156,7 @@ fn visits<R: Wait, P: PadPort>(
 ) -> Result<bool, NoMemory> {
     let grant = grant(alloc)?;
     let mut hall = port.hall(rt);
-    let Ok(mut pass) = port.pass(rt, &mut hall, &grant.pad) else {
+    let Ok(mut pass) = port.pass(rt, &mut hall, &grant.pad, true) else {
         return Ok(false);
     };
     let is_in = logs_in(rt, port, &mut pass, &grant);

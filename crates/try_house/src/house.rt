@@ -214,7 +214,7 @@ fn answers<R: Wait, P: PadPort>(rt: &R, alloc: Global, port: &P) -> Result<bool,
     }
     let name = id(alloc, "a")?;
     let mut hall = port.hall(rt);
-    let Ok(mut pass) = port.pass(rt, &mut hall, &name) else {
+    let Ok(mut pass) = port.pass(rt, &mut hall, &name, true) else {
         return Ok(false);
     };
     all_answer(rt, alloc, port, &mut pass)
@@ -236,7 +236,7 @@ fn granted<R: Wait, P: DirPort>(
 /// Whether who has a grant may log in to its pad.
 fn enters<R: Wait, P: PadPort>(rt: &R, port: &P, grant: &Grant) -> bool {
     let mut hall = port.hall(rt);
-    match port.pass(rt, &mut hall, &grant.pad) {
+    match port.pass(rt, &mut hall, &grant.pad, true) {
         Ok(mut pass) => ep_pad_calls::login(rt, port, &mut pass, grant, 2).is_ok(),
         Err(_) => false,
     }
@@ -255,7 +255,7 @@ fn reads<R: Wait, P: PadPort>(
     ensures { P.is_hall port.now hall.new }
 {
     let name = id(alloc, name)?;
-    let Ok(mut pass) = port.pass(rt, hall, &name) else {
+    let Ok(mut pass) = port.pass(rt, hall, &name, false) else {
         return Ok(false);
     };
     match ep_pad_calls::text(rt, port, &mut pass, None) {
@@ -291,26 +291,31 @@ fn refused<R: Wait, P: PadPort>(
     port: &P,
     hall: &mut P::Hall,
     name: &str,
+    makes: bool,
 ) -> Result<(&'static str, u64), NoMemory>
     requires { P.is_hall port.now hall.old }
     ensures { P.is_hall port.now hall.new }
 {
     let name = id(alloc, name)?;
-    Ok(match port.pass(rt, hall, &name) {
+    Ok(match port.pass(rt, hall, &name, makes) {
         Ok(_) => ("given", 0),
         Err(PassBad::Pads(count)) => ("pads", count),
         Err(PassBad::Shelf(count)) => ("shelf", count),
-        Err(PassBad::Pad(_)) => ("pad", 0),
+        Err(PassBad::Absent) => ("absent", 0),
         Err(PassBad::NoMemory) => ("memory", 0),
     })
 }
 
-/// Pads that are asked for on a shelf whose first call fails, where one is the most: why each is refused.
-const REFUSALS: [(&str, &str, u64); 4] = [
-    ("a", "shelf", 1),
-    ("a", "given", 0),
-    ("b", "pads", 1),
-    ("a", "given", 0),
+/// Pads that are asked for on a shelf whose first call fails, where one is the most, by who makes an absent one or
+/// doesn't: why each is refused.
+const REFUSALS: [(&str, bool, &str, u64); 7] = [
+    ("a", false, "shelf", 1),
+    ("b", false, "absent", 0),
+    ("a", false, "absent", 0),
+    ("a", true, "given", 0),
+    ("b", true, "pads", 1),
+    ("b", false, "pads", 1),
+    ("a", false, "given", 0),
 ];
 
 /// One hall is refused pads for these causes.
@@ -318,11 +323,11 @@ fn refuse_all<R: Wait + Abort, P: PadPort>(
     rt: &R,
     alloc: Global,
     port: &P,
-    rows: &[(&str, &str, u64)],
+    rows: &[(&str, bool, &str, u64)],
 ) -> Result<(), NoMemory> {
     let mut hall = port.hall(rt);
-    'rows: for (name, cause, number) in rows {
-        let (came, count) = refused(rt, alloc, port, &mut hall, name)?;
+    'rows: for (name, makes, cause, number) in rows {
+        let (came, count) = refused(rt, alloc, port, &mut hall, name, *makes)?;
         assert!(rt;
             came == *cause && count == *number,
             "pad {name}: {came} {count}"

@@ -10,7 +10,7 @@ use crate::given::{LIMITS, id};
 use ep_disk_mem::{MemDisk, MemFile, MemShelf};
 use ep_house::{Hall, PadOver, PadPass, Pads};
 use ep_outside::Shelf;
-use ep_pad::{PadBad, PadEntry, PadMachine, PadReply, PassBad};
+use ep_pad::{LazyPad, PadBad, PadEntry, PadReply, PassBad};
 use ep_units::{NoMemory, Units};
 use held::{Gate, HeldDisk, HeldShelf, waits};
 use std::alloc::Global;
@@ -19,7 +19,7 @@ use std::sync::atomic::Ordering;
 use std::sync::{Arc, Wait};
 use std::test::Fail;
 use std::thread::join;
-use toy::{Toy, ToyEntry};
+use toy::{Toy, ToyBad, ToyEntry};
 
 type MemPads = Pads<MemShelf, Toy<MemDisk>>;
 
@@ -29,9 +29,9 @@ type HeldPads = Pads<HeldShelf, Toy<HeldDisk>>;
 
 type HeldPass = PadPass<HeldShelf, Toy<HeldDisk>>;
 
-type FilePads = Pads<MemShelf, PadMachine<MemDisk>>;
+type FilePads = Pads<MemShelf, LazyPad<MemDisk>>;
 
-type FilePass = PadPass<MemShelf, PadMachine<MemDisk>>;
+type FilePass = PadPass<MemShelf, LazyPad<MemDisk>>;
 
 fn file(alloc: Global, name: &str, text: &str, fails: &[u64]) -> Result<MemFile, NoMemory> {
     let name = id(alloc, name)?;
@@ -57,33 +57,35 @@ fn asked<R: Wait>(
     pads: &MemPads,
     hall: &mut MemHall,
     name: &str,
+    makes: bool,
 ) -> Result<(&'static str, u64), NoMemory>
     requires { IsHallOf pads.now hall.old }
     ensures { IsHallOf pads.now hall.new }
 {
     let name = id(alloc, name)?;
-    Ok(match pads.pass(rt, hall, &name) {
+    Ok(match pads.pass(rt, hall, &name, makes) {
         Ok(mut pass) => match pass.call(rt, ToyEntry::Read) {
             Ok(total) => ("reads", total),
-            Err(_) => ("fails", 0),
+            Err(ToyBad::Store(count)) => ("fails", count),
+            Err(ToyBad::NoMemory) => ("memory", 0),
         },
         Err(PassBad::Pads(count)) => ("pads", count),
         Err(PassBad::Shelf(count)) => ("shelf", count),
-        Err(PassBad::Pad(count)) => ("pad", count),
+        Err(PassBad::Absent) => ("absent", 0),
         Err(PassBad::NoMemory) => ("memory", 0),
     })
 }
 
-/// One hall asks for pads, and is answered so.
+/// One hall asks for pads, which it makes where they are absent or doesn't, and is answered so.
 fn ask_all<R: Wait + Abort>(
     rt: &R,
     alloc: Global,
     pads: &MemPads,
-    rows: &[(&str, &str, u64)],
+    rows: &[(&str, bool, &str, u64)],
 ) -> Result<(), NoMemory> {
     let mut hall = pads.hall(rt);
-    'rows: for (name, answer, number) in rows {
-        let (came, count) = asked(rt, alloc, pads, &mut hall, name)?;
+    'rows: for (name, makes, answer, number) in rows {
+        let (came, count) = asked(rt, alloc, pads, &mut hall, name, *makes)?;
         assert!(rt;
             came == *answer && count == *number,
             "pad {name}: {came} {count}"
@@ -98,7 +100,7 @@ fn ask_over<R: Wait + Abort>(
     alloc: Global,
     files: Vec<MemFile>,
     fails: &[u64],
-    rows: &[(&str, &str, u64)],
+    rows: &[(&str, bool, &str, u64)],
 ) -> Result<(), NoMemory> {
     let fails = Vec::from_slice(alloc, fails)?;
     let shelf = MemShelf::new(alloc, files, fails)?;
@@ -110,7 +112,11 @@ fn ask_over<R: Wait + Abort>(
 fn a_stored_pad_comes_back(rt: HostRuntime) -> Result<(), Fail> {
     let alloc = rt.alloc();
     let files = files(alloc, &[("a", "one", &[]), ("b", "three", &[])])?;
-    let rows = [("b", "reads", 5), ("a", "reads", 3), ("b", "reads", 5)];
+    let rows = [
+        ("b", false, "reads", 5),
+        ("a", true, "reads", 3),
+        ("b", false, "reads", 5),
+    ];
     ask_over(&rt, alloc, files, &[], &rows)?;
     Ok(())
 }
@@ -120,14 +126,44 @@ fn refusals_have_their_causes(rt: HostRuntime) -> Result<(), Fail> {
     let alloc = rt.alloc();
     let files = files(alloc, &[("b", "three", &[1])])?;
     let rows = [
-        ("b", "shelf", 1),
-        ("b", "pad", 1),
-        ("b", "reads", 5),
-        ("c", "reads", 0),
-        ("d", "pads", 2),
-        ("b", "reads", 5),
+        ("b", false, "shelf", 1),
+        ("b", false, "fails", 1),
+        ("b", false, "reads", 5),
+        ("c", false, "absent", 0),
+        ("c", true, "reads", 0),
+        ("d", true, "pads", 2),
+        ("d", false, "pads", 2),
+        ("b", true, "reads", 5),
     ];
     ask_over(&rt, alloc, files, &[1], &rows)?;
+    Ok(())
+}
+
+/// More names than any house opens pads.
+const MANY: u64 = 10_001;
+
+/// Whether so many names are told to be absent, and two pads are opened then.
+fn none_takes_a_place<R: Wait>(rt: &R, alloc: Global, pads: &MemPads) -> Result<bool, NoMemory> {
+    let mut hall = pads.hall(rt);
+    'names: for number in 0..MANY {
+        let name = format!(in alloc; "absent{number}")?;
+        if asked(rt, alloc, pads, &mut hall, name.as_str(), false)? != ("absent", 0) {
+            return Ok(false);
+        }
+    }
+    Ok(
+        asked(rt, alloc, pads, &mut hall, "absent7", true)? == ("reads", 0)
+            && asked(rt, alloc, pads, &mut hall, "absent8", true)? == ("reads", 0)
+            && asked(rt, alloc, pads, &mut hall, "absent9", true)? == ("pads", 2),
+    )
+}
+
+#[test]
+fn an_absent_pad_takes_no_place(rt: HostRuntime) -> Result<(), Fail> {
+    let alloc = rt.alloc();
+    let shelf = MemShelf::new(alloc, Vec::new(alloc), Vec::new(alloc))?;
+    let pads: MemPads = Pads::open(alloc, shelf, LIMITS)?;
+    assert!(&rt; none_takes_a_place(&rt, alloc, &pads)?);
     Ok(())
 }
 
@@ -140,7 +176,7 @@ fn pass_of<R: Wait, H: Shelf + Drop, P: PadOver<H::D>>(
 ) -> Result<PadPass<H, P>, NoMemory> {
     let name = id(alloc, name)?;
     let mut hall = pads.hall(rt);
-    match pads.pass(rt, &mut hall, &name) {
+    match pads.pass(rt, &mut hall, &name, true) {
         Ok(pass) => Ok(pass),
         Err(_) => Err(NoMemory),
     }
@@ -184,6 +220,42 @@ fn two_pads_at_once(rt: HostRuntime) -> Result<(), Fail> {
     assert!(&rt;
         !gate.late.load(Ordering::SeqCst),
         "pad A's sync waited too long"
+    );
+    Ok(())
+}
+
+/// Whether who asks for a pad adds to it.
+fn enters<R: Wait>(rt: &R, alloc: Global, pads: &HeldPads, name: &str) -> bool {
+    match pass_of(rt, alloc, pads, name) {
+        Ok(mut pass) => adds(rt, &mut pass, 1, 1),
+        Err(_) => false,
+    }
+}
+
+/// Waits until the first disk is in its opening, enters the second pad, and lets the first go on.
+fn enters_meanwhile<R: Wait>(rt: &R, alloc: Global, pads: &HeldPads, gate: &Gate) -> bool {
+    let has_begun = waits(&gate.begun);
+    let enters = enters(rt, alloc, pads, "b");
+    gate.opened.store(true, Ordering::SeqCst);
+    has_begun && enters
+}
+
+/// Pad A's disk holds its opening until pad B, which nobody asked for before, has answered.
+#[test]
+fn an_opening_holds_nobody_else(rt: HostRuntime) -> Result<(), Fail> {
+    let alloc = rt.alloc();
+    let gate = Arc::new(alloc, Gate::new())?;
+    gate.armed.store(true, Ordering::SeqCst);
+    let pads = held_pads(alloc, &gate)?;
+    let (first, second) = join(
+        &rt,
+        || enters(&rt, alloc, &pads, "a"),
+        || enters_meanwhile(&rt, alloc, &pads, &gate),
+    );
+    assert!(&rt; first && second);
+    assert!(&rt;
+        !gate.late.load(Ordering::SeqCst),
+        "pad A's opening waited too long"
     );
     Ok(())
 }

@@ -52,6 +52,12 @@ fn size<S: Shelf>(alloc: Global, shelf: &mut S, name: &str) -> Result<Option<u64
     }
 }
 
+/// Whether there is a disk of the name; `None` where the shelf fails.
+fn has<S: Shelf>(alloc: Global, shelf: &mut S, name: &str) -> Result<Option<bool>, Fail> {
+    let id = id(alloc, name)?;
+    Ok(shelf.has(&id).ok())
+}
+
 /// The names, each with a space behind it.
 fn spelled(alloc: Global, names: &[PadId]) -> Result<Units, NoMemory> {
     let mut text = Units::new(alloc);
@@ -95,6 +101,22 @@ fn names_in_order(rt: HostRuntime) -> Result<(), Fail> {
     assert_eq!(rt; are_names(alloc, &mut shelf, "a b c ")?, Some(true));
     assert_eq!(rt; size(alloc, &mut shelf, "aa")?, Some(0));
     assert_eq!(rt; are_names(alloc, &mut shelf, "a aa b c ")?, Some(true));
+    Ok(())
+}
+
+#[test]
+fn names_that_are_there(rt: HostRuntime) -> Result<(), Fail> {
+    let alloc = rt.alloc();
+    let mut shelf = shelf(alloc, &[2])?;
+    for (name, there) in [
+        ("b", Some(true)),
+        ("b", None),
+        ("aa", Some(false)),
+        ("a", Some(true)),
+    ] {
+        assert_eq!(rt; has(alloc, &mut shelf, name)?, there, "at {name}");
+    }
+    assert_eq!(rt; are_names(alloc, &mut shelf, "a b c ")?, Some(true));
     Ok(())
 }
 

@@ -1,4 +1,4 @@
-//! A shelf whose first disk holds a sync until it is let go.
+//! A shelf whose first disk holds a sync, and a look at its length, until it is let go.
 
 ghost use Rattle.std.specs.Prelude.{◌≡◌, None, true, refl};
 
@@ -11,7 +11,7 @@ use std::thread;
 
 pub const TURNS: u32 = 1_000_000;
 
-/// Where a sync stands.
+/// Where a call that is held stands.
 #[derive(Drop)]
 pub struct Gate {
     pub armed: AtomicBool,
@@ -42,7 +42,7 @@ pub fn waits(flag: &AtomicBool) -> bool {
     false
 }
 
-/// An empty disk, which tells nothing, forgets what is written, and may hold a sync.
+/// An empty disk, which tells nothing, forgets what is written, and may hold a sync and a look at its length.
 pub struct HeldDisk {
     // the calls and the bytes for which there is room
     calls: u64,
@@ -60,7 +60,7 @@ impl Drop for HeldDisk {
     }
 }
 
-/// The holder of a sync waits until the gate is opened, where it is armed.
+/// Who holds a gate waits until it is opened, where it is armed.
 fn hold(gate: &Gate) {
     if !gate.armed.load(Ordering::SeqCst) {
         return;
@@ -99,6 +99,9 @@ impl Disk for HeldDisk {
     ghost reads_as_left = { λ _. tt };
 
     fn length(&mut self) -> Result<u64, Failed> {
+        if let Some(gate) = &self.gate {
+            hold(gate);
+        }
         Ok(0)
     }
 
@@ -174,6 +177,10 @@ impl Shelf for HeldShelf {
 
     fn names(&mut self) -> Result<Vec<PadId>, ShelfBad> {
         Ok(Vec::new(self.alloc))
+    }
+
+    fn has(&mut self, _name: &PadId) -> Result<bool, ShelfBad> {
+        Ok(true)
     }
 
     fn open(&mut self, _name: &PadId) -> Result<HeldDisk, ShelfBad> {

@@ -3,7 +3,7 @@
 ghost use Rattle.std.specs.Prelude.{◌≡◌};
 
 use ep_house::PadOver;
-use ep_outside::{Disk, Limits, Machine, Refused};
+use ep_outside::{Disk, Limits, Machine};
 use std::alloc::Global;
 
 /// Why a call did nothing.
@@ -20,11 +20,11 @@ pub enum ToyEntry {
     Read,
 }
 
-/// A counter. It begins with the length of its disk, and each addition syncs twice.
+/// A counter. Its first call finds its total, which is the length of its disk, and each addition syncs twice.
 pub struct Toy<D> {
     disk: D,
     limits: Limits,
-    total: u64,
+    total: Option<u64>,
 }
 
 impl<D: Drop> Drop for Toy<D> {
@@ -38,15 +38,30 @@ impl<D: Drop> Drop for Toy<D> {
 }
 
 impl<D: Disk> Toy<D> {
+    fn read(&mut self) -> Result<u64, ToyBad> {
+        if let Some(total) = self.total {
+            return Ok(total);
+        }
+        match self.disk.length() {
+            Ok(total) => {
+                self.total = Some(total);
+                Ok(total)
+            }
+            Err(_) => Err(ToyBad::Store(self.disk.faults())),
+        }
+    }
+
     fn add(&mut self, n: u64) -> Result<u64, ToyBad> {
+        let total = self.read()?;
         if self.disk.reserve(0).is_err() {
             return Err(ToyBad::NoMemory);
         }
         if self.disk.sync().is_err() || self.disk.sync().is_err() {
             return Err(ToyBad::Store(self.disk.faults()));
         }
-        self.total = self.total.wrapping_add(n);
-        Ok(self.total)
+        let total = total.wrapping_add(n);
+        self.total = Some(total);
+        Ok(total)
     }
 }
 
@@ -66,34 +81,23 @@ impl<D: Disk + Drop> Machine for Toy<D> {
     fn call(&mut self, entry: ToyEntry) -> Result<u64, ToyBad> {
         match entry {
             ToyEntry::Add(n) => self.add(n),
-            ToyEntry::Read => Ok(self.total),
+            ToyEntry::Read => self.read(),
         }
     }
 }
 
 impl<D: Disk + Drop> PadOver<D> for Toy<D> {
     ghost use Rattle.std.specs.Prelude.{◌≡◌};
-    ghost use Rattle.ep_outside.specs.Outside.{HasRisen};
-
-    type Bad = u64;
-
-    ghost refuses = { λ disk back n. (n ≡ D.failures back) × HasRisen (D.failures disk) (D.failures back) };
 
     ghost limits_of = { λ toy. toy.limits };
 
-    ghost disk_of = { λ toy. toy.disk };
+    ghost is_shut = { λ toy disk. toy.disk ≡ disk };
 
-    fn open(_alloc: Global, mut disk: D, limits: Limits) -> Result<Toy<D>, Refused<D, u64>> {
-        match disk.length() {
-            Ok(total) => Ok(Toy {
-                disk,
-                limits,
-                total,
-            }),
-            Err(_) => Err(Refused {
-                why: disk.faults(),
-                back: disk,
-            }),
+    fn shut(_alloc: Global, disk: D, limits: Limits) -> Toy<D> {
+        Toy {
+            disk,
+            limits,
+            total: None,
         }
     }
 

@@ -1,14 +1,11 @@
 use Rattle.std.proofs.Common.{refl, ap}
-use Rattle.std.proofs.lemmas.Result.{err_from_is_err_and}
 use Rattle.ep_cell.specs.History.{pairs}
 use Rattle.ep_api.specs.Passes.{IsLacking}
 use Rattle.ep_api.proofs.Halls.{legal_noted, own-noted, turned_away}
 use Rattle.ep_api.proofs.visiting.enter.Goals as goal
 
-pub returns-in_err-reserve-clause-none : goal.returns-in_err-reserve-clause-none
-returns-in_err-reserve-clause-none g c =
-    let p = err_from_is_err_and c.from_residual.result c.from_residual.ensures.1 in
-    rw (p.1) (IsLacking refl p.2)
+pub returns-then-is_err-clause-none : goal.returns-then-is_err-clause-none
+returns-then-is_err-clause-none g c = IsLacking refl refl
 
 pub returns-in-Ok-clause-waits : goal.returns-in-Ok-clause-waits
 returns-in-Ok-clause-waits g c = record { of = c.in-Ok.ensures.hall; legal = legal_noted _ _ _ _ _ c.in-Ok.ensures.noted c.requires.waits.legal }
@@ -20,4 +17,4 @@ pub returns-in-Err-clause-waits : goal.returns-in-Err-clause-waits
 returns-in-Err-clause-waits g c = record { of = c.in-Err.ensures.hall; legal = legal_noted _ _ _ _ _ c.in-Err.ensures.noted c.requires.waits.legal }
 
 pub returns-in-Err-clause-none : goal.returns-in-Err-clause-none
-returns-in-Err-clause-none g c = turned_away _ _ _ _ c.in-Err.why _ c.in-Err.ensures.noted c.of_pass.ensures
+returns-in-Err-clause-none g c = turned_away _ _ _ _ c.in-Err.why c.in-Err.ensures.noted

@@ -1,13 +1,14 @@
 use Rattle.std.proofs.Common.{refl}
 use Rattle.std.proofs.lemmas.Result.{err_from_is_err_and}
 use Rattle.ep_pad.specs.declared.entries.PadReply.TheVariants as replied
-use Rattle.ep_api.proofs.Halls.{not_visited, stand_after, stand_same, visited}
+use Rattle.ep_ask.specs.declared.param.Param.TheVariants.{PadId}
+use Rattle.ep_api.proofs.Halls.{not_visited, plain, stand_after, stand_same, visited}
 use Rattle.ep_api.proofs.visiting.set_text.Goals as goal
 
 pub returns-in_err-pass-clause-visits : goal.returns-in_err-pass-clause-visits
 returns-in_err-pass-clause-visits g c =
     let p = err_from_is_err_and c.from_residual.result c.from_residual.ensures.1 in
-    rw (p.1, p.2) (not_visited g.P.PadPort.known g.P.PadPort.name_of g.P.PadPort.cell_of _ _ _ _ _ _ _ _ _ c.in_err-pass.ensures.none c.in_err-pass.ensures.same)
+    rw (p.1, p.2) (not_visited g.P.PadPort.known g.P.PadPort.name_of g.P.PadPort.cell_of _ _ _ _ _ _ _ _ _ c.in_err-pass.ensures.none c.in_err-pass.ensures.same (plain PadId))
 
 pub returns-in_err-pass-clause-stand : goal.returns-in_err-pass-clause-stand
 returns-in_err-pass-clause-stand g c = stand_same _ _ _ _ _ _ _ _ c.requires.stand c.in_err-pass.ensures.same

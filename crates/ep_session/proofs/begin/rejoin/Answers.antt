@@ -1,6 +1,6 @@
 use Rattle.std.proofs.Common.{refl, sym, ap, subst, [], ◌∷◌}
 use Rattle.ep_pad.specs.Asking.{AsksOrLacks}
-use Rattle.ep_pad.specs.Histories.{IsLegalFrom}
+use Rattle.ep_pad.specs.Lazy.{IsLegalFrom}
 use Rattle.ep_pad.specs.declared.entries.PadEntry.TheVariants as entry
 use Rattle.ep_pad.specs.declared.entries.PadReply.TheVariants as reply
 use Rattle.ep_wire_words.specs.declared.server.ServerMsg.TheVariants as msg

@@ -2,7 +2,7 @@ use Rattle.std.proofs.Common.{◌≡◌, ◌≤◌, [], ◌∷◌}
 use Rattle.ep_session.specs.Session.{Fetch}
 use Rattle.ep_session.specs.Says.{no_moment}
 use Rattle.ep_cell.specs.History.{pairs}
-use Rattle.ep_pad.specs.Histories.{IsLegalFrom}
+use Rattle.ep_pad.specs.Lazy.{IsLegalFrom}
 use Rattle.ep_session.proofs.Running.{SoFar}
 use Rattle.ep_session.proofs.fetch.catch_up.Given as goal
 

@@ -1,7 +1,7 @@
 use Rattle.std.proofs.Common.{◌≡◌, ◌≤◌, [], ◌∷◌}
 use Rattle.ep_session.specs.Session.{Hear}
 use Rattle.ep_cell.specs.History.{pairs}
-use Rattle.ep_pad.specs.Histories.{IsLegalFrom}
+use Rattle.ep_pad.specs.Lazy.{IsLegalFrom}
 use Rattle.ep_session.proofs.Running.{SoFar}
 use Rattle.ep_session.proofs.turn.turns.Given as goal
 

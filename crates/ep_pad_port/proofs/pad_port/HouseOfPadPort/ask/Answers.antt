@@ -1,7 +1,7 @@
 use Rattle.std.proofs.Common.{◌∙◌, subst}
 use Rattle.ep_house.specs.Pads.{begun_of, known}
 use Rattle.ep_cell.specs.History.{pairs}
-use Rattle.ep_pad.specs.Histories.{IsLegalFrom}
+use Rattle.ep_pad.specs.Lazy.{IsLegalFrom}
 use Rattle.ep_pad_port.proofs.Replied.{suits}
 use Rattle.ep_pad_port.proofs.pad_port.HouseOfPadPort.ask.Goals as goal
 
