@@ -93,8 +93,8 @@ module _ (old now : Unread) (piece more : List ℕ) (p : Passed old piece now) w
       let some : 0 < length (p.gone ++ now.held) = omega (arith, size, p.long) in (
         record { bytes = p.gone ++ now.held; ended = false },
         ap rows_of (all ∙ ap (λ xs. (p.gone ++ now.held) ++ xs) over ∙ append-nil (p.gone ++ now.held))
-        ∙ last (p.gone ++ now.held) some (behind-none p.gone now.held p.unended none)
-        ∙ ap (λ rs. record { bytes = p.gone ++ now.held; ended = false } ∷ rs) (sym (ap rows_of (ap (λ xs. xs ++ more) e ∙ over))),
+            ∙ last (p.gone ++ now.held) some (behind-none p.gone now.held p.unended none)
+            ∙ ap (λ rs. record { bytes = p.gone ++ now.held; ended = false } ∷ rs) (sym (ap rows_of (ap (λ xs. xs ++ more) e ∙ over))),
         grind (arith, nat_tests, size, p.long),
       )
 
@@ -131,5 +131,5 @@ none-more u b more n (inr l) h m = absurd (let e : n ≤ u.most = grind (arith, 
 pub passed-over : (old now new : Unread) (piece next more : List ℕ) → now.held ≡ old.held ++ piece → now.most ≡ old.most → Passes now next more new → Passes old (piece ++ next) more new
 passed-over old now new piece next more is same x =
     let e : old.held ++ ((piece ++ next) ++ more) ≡ now.held ++ (next ++ more)
-        = ap (λ xs. old.held ++ xs) (append_assoc piece next more) ∙ sym (append_assoc old.held piece (next ++ more)) ∙ ap (λ xs. xs ++ (next ++ more)) (sym is) in
+    = ap (λ xs. old.held ++ xs) (append_assoc piece next more) ∙ sym (append_assoc old.held piece (next ++ more)) ∙ ap (λ xs. xs ++ (next ++ more)) (sym is) in
     (x.0, ap rows_of e ∙ x.1, ap (λ n. nat_lt n (length x.0.bytes)) (sym same) ∙ x.2)
