@@ -4,8 +4,8 @@
 # First comes the database with its log, and then each journal as it lies there. What is in the log is brought into the
 # database from time to time, and then the log begins anew with another header: where that changed meanwhile, both are copied
 # again. A journal is read from its front to its back, and the byte that makes a record count is written only once the record
-# is. So the copy holds what a server could have left that was killed: all that was acknowledged before this began, and
-# perhaps some of what came after. Look at it with `padd verify COPY 1`.
+# is. So each file is what a killed server could have left: all that was acknowledged before this began is there, and perhaps
+# some of what came after. Look at the copy with `padd verify COPY 1`.
 set -eu
 [ $# -eq 2 ] || { echo "backup.sh FOLDER COPY" >&2; exit 2; }
 folder=$1
