@@ -1,4 +1,5 @@
 // Reads the changesets and attributed texts that padedit tells, which are well formed. It makes none.
+import { remembered } from './remembered.js';
 
 const number = (digits) => (digits ? parseInt(digits, 36) : 0);
 
@@ -10,11 +11,11 @@ export function lengthsOf(changeset) {
 }
 
 function* operations(spelled, pool, bank) {
+  const pairsOf = remembered((attribs) => attribs.split('*').slice(1).map((n) => pool.numToAttrib[number(n)]));
   let at = 0;
   for (const [, attribs, lines, kind, digits] of spelled.matchAll(/((?:\*[0-9a-z]+)*)(?:\|([0-9a-z]+))?([-+=])([0-9a-z]+)/g)) {
     const units = number(digits);
-    const pairs = attribs.split('*').slice(1).map((n) => pool.numToAttrib[number(n)]);
-    const step = { kind, units, lines: number(lines), pairs, text: '' };
+    const step = { kind, units, lines: number(lines), pairs: pairsOf(attribs), text: '' };
     if (kind === '+') {
       step.text = bank.slice(at, at + units);
       at += units;

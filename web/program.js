@@ -13,7 +13,7 @@ export class Program {
   #unread = []; // bytes of requests that the program hasn't read
   #wake = null; // goes on with a read that waits
   #asked = []; // who waits for a reply, in order
-  #line = ''; // of a reply that has no end yet
+  #parts = []; // of a reply that has no end yet
   #fault = ''; // what the program says of its own end
   #isOver = false;
   #reading = new TextDecoder();
@@ -66,9 +66,12 @@ export class Program {
   }
 
   #reply(text) {
-    const lines = (this.#line + text).split('\n');
-    this.#line = lines.pop();
-    for (const line of lines) this.#asked.shift().resolve(JSON.parse(line));
+    const [first, ...others] = text.split('\n');
+    this.#parts.push(first);
+    for (const part of others) {
+      this.#asked.shift().resolve(JSON.parse(this.#parts.join('')));
+      this.#parts = [part];
+    }
   }
 
   #end(why, ended) {

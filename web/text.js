@@ -1,14 +1,21 @@
 // The text that is shown: CodeMirror, with a mark for each stretch of a line that has attributes.
 //
+// A large text has more stretches than can be marked at once. So a line of a document that came whole keeps its stretches
+// beside it, as `due`, and gets its marks when it is about to be seen, or to be changed.
+//
 // A pad's text ends with a line feed, which isn't shown: so the last line is no empty one. Places count UTF-16 units.
 import { Attrs, STYLES } from './attrs.js';
-import { lengthsOf, stepsOf, stretchesOf } from './changeset.js';
+import { lengthsOf, stepsOf } from './changeset.js';
+import { remembered } from './remembered.js';
+import { eachLine, painted, placeBehind, stretchesByLine } from './stretches.js';
 
 const RIGHT_TO_LEFT = /[\u0590-\u08ff\u200f\ufb1d-\ufdff\ufe70-\ufeff]|[\ud802\ud803\ud83a\ud83b][\udc00-\udfff]/;
 /** So many units tell which way a text runs. */
 const TELLING = 1000;
 /** So many lines of a selection tell which styles it has. */
 const LINES_LOOKED_AT = 200;
+/** So many lines above and below those that are seen have their marks too. */
+const MARKED_AROUND = 100;
 /** CodeMirror reads what an input method wrote in this time. */
 const READ_IN = 120;
 /** An input method that does nothing for so long isn't waited for. */
@@ -49,8 +56,12 @@ export class PadText {
       // Tab leaves the text, for people who have no mouse
       extraKeys: { Tab: false, 'Shift-Tab': false, Enter: (cm) => cm.replaceSelection('\n', 'end', '+input'), ...keys },
     });
-    this.cm.on('beforeChange', (_, change) => this.#typing(change, typed));
+    this.cm.on('beforeChange', (_, change) => {
+      this.#markEnds(change);
+      this.#typing(change, typed);
+    });
     this.cm.on('change', () => this.#colourTyped());
+    this.cm.on('viewportChange', () => this.#markSeen());
     this.cm.on('cursorActivity', () => moved());
     const input = this.cm.getInputField();
     input.setAttribute('role', 'textbox');
@@ -97,17 +108,14 @@ export class PadText {
     this.#told(() => {
       this.length = text.length;
       this.#endIsHidden = text.endsWith('\n');
-      this.cm.setValue(this.#endIsHidden ? text.slice(0, -1) : text);
-      const lines = text.split('\n');
-      let at = { line: 0, ch: 0 };
-      for (const step of stretchesOf(attribs, pool, text)) {
-        const end = placeBehind(at, step);
-        const attrs = Attrs.of(step.pairs);
-        for (const [line, from, to] of eachLine(at, end, (n) => lines[n].length)) this.#mark(line, from, to, attrs);
-        at = end;
-      }
+      const shown = this.#endIsHidden ? text.slice(0, -1) : text;
+      this.cm.setValue(shown);
+      const stretches = stretchesByLine(attribs, pool, shown).values();
+      this.cm.eachLine((line) => void (line.due = stretches.next().value));
       this.cm.setCursor(cursor, undefined, { scroll: false });
+      this.#markSeen();
     });
+    this.#markSeen();
     this.#turn();
   }
 
@@ -153,7 +161,7 @@ export class PadText {
     }
     const end = placeBehind(at, step);
     if (step.kind === '=') {
-      if (step.pairs.length) this.#paint(at, end, (attrs) => attrs.with(step.pairs));
+      if (step.pairs.length) this.#paint(at, end, remembered((attrs) => attrs.with(step.pairs)));
       return end;
     }
     if (end.line > this.cm.lastLine()) this.#showEnd();
@@ -293,7 +301,9 @@ export class PadText {
 
   /** Every author of the text. */
   get authors() {
-    return new Set(this.cm.getAllMarks().map(({ attrs }) => attrs?.author).filter(Boolean));
+    const all = this.cm.getAllMarks();
+    this.cm.eachLine(({ due = [] }) => void all.push(...due));
+    return new Set(all.map(({ attrs }) => attrs?.author).filter(Boolean));
   }
 
   #mark(line, from, to, attrs) {
@@ -302,8 +312,32 @@ export class PadText {
     this.cm.markText({ line, ch: from }, { line, ch: to }, { className, css }).attrs = attrs;
   }
 
-  /** The marks that share units with a stretch of a line or touch it, in order. */
+  /** A line whose marks are due gets them. */
+  #markLine(n) {
+    const line = this.cm.getLineHandle(n);
+    const { due = [] } = line;
+    line.due = undefined;
+    for (const { from, to, attrs } of due) this.#mark(n, from, to, attrs);
+  }
+
+  /** The lines that are seen, and some around them. */
+  #markSeen() {
+    const { from, to } = this.cm.getViewport();
+    const all = [];
+    const note = (line) => void (line.due && all.push(line.lineNo()));
+    this.cm.eachLine(Math.max(0, from - MARKED_AROUND), Math.min(to + MARKED_AROUND, this.cm.lineCount()), note);
+    if (all.length) this.cm.operation(() => all.forEach((n) => this.#markLine(n)));
+  }
+
+  /** The first and the last line of what is about to be changed. CodeMirror then moves their marks; lines between them go. */
+  #markEnds({ from, to, origin }) {
+    if (origin !== 'setValue') for (const n of [from.line, to.line]) this.#markLine(n);
+  }
+
+  /** The stretches with attributes that share units with a stretch of a line or touch it, in order. */
   #stretches(line, from, to) {
+    const { due } = this.cm.getLineHandle(line);
+    if (due) return due.filter((it) => it.from <= to && it.to >= from);
     return this.cm
       .findMarks({ line, ch: Math.max(0, from - 1) }, { line, ch: to + 1 })
       .filter((mark) => mark.attrs)
@@ -328,44 +362,15 @@ export class PadText {
     for (const [line, a, b] of eachLine(from, to, (n) => this.cm.getLine(n).length)) this.#mark(line, a, b, mark.attrs);
   }
 
-  #paintLine(line, from, to, become) {
+  #paintLine(n, from, to, become) {
     if (from >= to) return;
-    const beside = this.#stretches(line, from, to);
-    const made = [];
-    const add = (a, b, attrs) => {
-      const last = made.at(-1);
-      if (a >= b) return;
-      if (last && last.to === a && last.attrs === attrs) last.to = b;
-      else made.push({ from: a, to: b, attrs });
-    };
-    let at = from;
-    const bare = (end) => {
-      add(at, end, become(Attrs.NONE));
-      at = Math.max(at, end);
-    };
-    for (const it of beside) {
-      add(it.from, Math.min(it.to, from), it.attrs);
-      bare(Math.min(it.from, to));
-      const end = Math.min(it.to, to);
-      if (at < end) add(at, end, become(it.attrs));
-      at = Math.max(at, end);
-      if (it.to >= to) bare(to);
-      add(Math.max(it.from, to), it.to, it.attrs);
+    const line = this.cm.getLineHandle(n);
+    if (line.due) {
+      line.due = painted(line.due, from, to, become);
+      return;
     }
-    bare(to);
+    const beside = this.#stretches(n, from, to);
     for (const { mark } of beside) mark.clear();
-    for (const it of made) this.#mark(line, it.from, it.to, it.attrs);
-  }
-}
-
-/** The place behind so many units, of which so many end a line. */
-const placeBehind = ({ line, ch }, { units, lines }) => (lines ? { line: line + lines, ch: 0 } : { line, ch: ch + units });
-
-/** The part of each line within a stretch. */
-function* eachLine(from, to, lengthOf) {
-  for (let line = from.line; line <= to.line; line++) {
-    const end = line === to.line ? to.ch : lengthOf(line);
-    if (line === to.line && end === 0) return;
-    yield [line, line === from.line ? from.ch : 0, end];
+    for (const it of painted(beside, from, to, become)) this.#mark(n, it.from, it.to, it.attrs);
   }
 }

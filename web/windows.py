@@ -157,6 +157,11 @@ const marks = cm.getAllMarks().filter((mark) => mark.attrs).map((mark) => {
   const { from, to } = mark.find();
   return [from.line, from.ch, to.line, to.ch, [...mark.attrs.pairs]];
 });
+// lines that weren't seen yet have no marks
+cm.eachLine((line) => {
+  const n = line.lineNo();
+  for (const { from, to, attrs } of line.due ?? []) marks.push([n, from, n, to, [...attrs.pairs]]);
+});
 return [cm.getValue('\\n'), marks];
 """
 
