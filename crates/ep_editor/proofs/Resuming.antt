@@ -25,7 +25,7 @@ use Rattle.ep_editor.specs.declared.bad.EditorBad.{EditorBad}
 use Rattle.ep_editor.specs.declared.editor.Said.{Said}
 use Rattle.ep_editor.specs.declared.editor.Said.TheVariants as says
 use Rattle.ep_editor.specs.declared.entered.Entered.{Entered}
-use Rattle.ep_editor.specs.declared.slider.Slid.TheVariants as slides
+use Rattle.ep_timeslider.specs.declared.slider.Slid.TheVariants as slides
 
 -- nothing is dropped while there is something to hear
 pub resumes-early : (session : Session) (head : ℕ) (k : KeptClient) → nat_lt k.rev head ≡ true → kept_resumes session head k ≡ kept_resumed session head k

@@ -36,7 +36,8 @@ use Rattle.ep_undo.specs.Undo as undo
 use Rattle.ep_hearing.specs.declared.meaning.Slid.{Slid}
 use Rattle.ep_editor.specs.Inside.{comes_back, cut_off, edited, formatted, hears, hears_back, hears_more, hears_now, hears_own, hears_unless, is_busy_inside, is_due, is_long, is_renewed, kept_of, loses, makes, own_map, owns_unless, put_by, redoes, remade, resume_of, resumed_with, returns, submits, submitted, told_reply, undoes, with_client}
 use Rattle.ep_editor.specs.Kept.{keeps}
-use Rattle.ep_editor.specs.Past.{answers, hears_slid, slides, slides_by, slid_by, slid_for, stands, steps_of, walked}
+use Rattle.ep_timeslider.specs.Steps.{answers, steps_of, walked}
+use Rattle.ep_editor.specs.Past.{hears_slid, slides, slides_by, slid_by, slid_for, stands}
 use Rattle.ep_editor.specs.Replies.{Reply, Sends, Paints, Closes, Renewed, Nothing, ready, refuses}
 use Rattle.ep_editor.specs.Requests.{Request, answer}
 use Rattle.ep_editor.specs.Requests as request
@@ -48,9 +49,9 @@ use Rattle.ep_editor.specs.declared.editor.Editor.{Editor}
 use Rattle.ep_editor.specs.declared.editor.Editor.TheVariants.{Entering, Inside}
 use Rattle.ep_editor.specs.declared.editor.Wanted.{Wanted}
 use Rattle.ep_editor.specs.declared.entered.Entered.{Entered}
-use Rattle.ep_editor.specs.declared.slider.Asked.{Asked}
-use Rattle.ep_editor.specs.declared.slider.Place.{Place}
-use Rattle.ep_editor.specs.declared.slider.Step.{Step as SliderStep}
+use Rattle.ep_timeslider.specs.declared.slider.Asked.{Asked}
+use Rattle.ep_timeslider.specs.declared.slider.Place.{Place}
+use Rattle.ep_timeslider.specs.declared.slider.Step.{Step as SliderStep}
 use Rattle.ep_editor.proofs.Signing.{change_fits, signing_fits}
 use Rattle.ep_editor.proofs.Fitting.{paint_fits, put_fits}
 

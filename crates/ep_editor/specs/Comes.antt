@@ -7,8 +7,6 @@ use Rattle.ep_wire_words.specs.Server.{ReadsServer}
 use Rattle.ep_wire_words.specs.declared.bad.WireBad.{WireBad}
 use Rattle.ep_wire_words.specs.declared.client.ClientMsg.{ClientMsg}
 use Rattle.ep_wire_words.specs.declared.server.ServerMsg.{ServerMsg}
-use Rattle.ep_client.specs.declared.bad.ClientBad.{ClientBad}
-use Rattle.ep_client.specs.declared.bad.ClientBad.TheVariants as client_bad
 use Rattle.ep_editor.specs.Inside.{kept_of}
 use Rattle.ep_editor.specs.Kept.{work_in}
 use Rattle.ep_editor.specs.Replies.{Reply, Sends, Shows, Resumes, Paints, Changes, Closes, Renewed, Past, Keeps, Nothing, Refuses}
@@ -20,8 +18,8 @@ use Rattle.ep_editor.specs.declared.editor.Editor.TheVariants.{Inside}
 use Rattle.ep_editor.specs.declared.editor.Said.{Said}
 use Rattle.ep_editor.specs.declared.editor.Said.TheVariants as says
 use Rattle.ep_editor.specs.declared.kept.Kept.{Kept}
-use Rattle.ep_editor.specs.declared.slider.Slid.{Slid}
-use Rattle.ep_editor.specs.declared.slider.Slid.TheVariants as slides
+use Rattle.ep_timeslider.specs.declared.slider.Slid.{Slid}
+use Rattle.ep_timeslider.specs.declared.slider.Slid.TheVariants as slides
 
 -- the call answered this reply, and left that; an error left what was there, and is the refusal, or want of memory
 abbrev pub Comes : {X S : Type 0} → (X → Reply) → Result X EditorBad → S → S → Reply × S → Type 0
@@ -98,7 +96,3 @@ PaintsShown s c = Unit {0}
 abbrev pub RemakesShown : Editor → Option Change → Type 0
 RemakesShown (Inside p) o = IfSome o (λ c. Fits c (kept_of p).view)
 RemakesShown s o = Unit {0}
-
--- this came out, or memory ran out
-abbrev pub IsOr : {A : Type 0} → Result A ClientBad → Result A ClientBad → Type 0
-IsOr made wanted = (made ≡ Err client_bad.NoMemory) ⊎ (made ≡ wanted)

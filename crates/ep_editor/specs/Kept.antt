@@ -7,7 +7,7 @@ use Rattle.ep_history.specs.Kept.{KeptClient}
 use Rattle.ep_client.specs.Restored.{kept_restored, restore_fault}
 use Rattle.ep_client.specs.declared.bad.ClientBad.{ClientBad}
 use Rattle.ep_undo.specs.Undo.{undo_started}
-use Rattle.ep_editor.specs.Past.{slider_at}
+use Rattle.ep_timeslider.specs.Steps.{slider_at}
 use Rattle.ep_editor.specs.Replies.{Reply, Keeps, Work}
 use Rattle.ep_editor.specs.declared.editor.Wanted.{Wanted}
 use Rattle.ep_editor.specs.declared.entered.Entered.{Entered}

@@ -16,7 +16,8 @@ use Rattle.ep_editor.specs.Bads.{bad_of_client, bad_of_wire}
 use Rattle.ep_editor.specs.Replies.{Reply, Sends, Shows, Resumes, Closes, Nothing, refuses, ready}
 use Rattle.ep_editor.specs.Inside.{edited, formatted, undoes, redoes, submitted, loses, returns, resume_of, hears, inside_state, is_busy_inside}
 use Rattle.ep_editor.specs.Kept.{goes_on, keeps, kept_fault}
-use Rattle.ep_editor.specs.Past.{slider_at, slides}
+use Rattle.ep_timeslider.specs.Steps.{slider_at}
+use Rattle.ep_editor.specs.Past.{slides}
 use Rattle.ep_editor.specs.declared.bad.EditorBad.TheVariants as bad
 use Rattle.ep_editor.specs.declared.editor.Editor.{Editor}
 use Rattle.ep_editor.specs.declared.editor.Editor.TheVariants.{Outside, Entering, Inside}

@@ -17,7 +17,6 @@ ghost use Rattle.ep_editor.specs.Inside.{closes, cut_off, edited, formatted, hea
 use crate::bad::EditorBad;
 use crate::editor::{Said, State, Wanted};
 use crate::ready::ready;
-use crate::slider::Slider;
 use ep_apply::Doc;
 use ep_attr::{Attr, AttrMap};
 use ep_client::{Heard, Submission, Told};
@@ -26,6 +25,7 @@ use ep_cs::{Change, MOST_UNITS};
 use ep_hearing::{Back, Meaning, News};
 use ep_invert::{SpliceBad, paint, splice};
 use ep_sign::signing;
+use ep_timeslider::Slider;
 use ep_undo::UndoClient;
 use ep_units::{NoMemory, Units};
 use ep_wire_words::{ClientMsg, Resume, Word};

@@ -5,7 +5,7 @@ ghost use Rattle.ep_cs.specs.Doc.{Doc};
 ghost use Rattle.ep_history.specs.Kept.{IsKeptSound};
 ghost use Rattle.ep_editor.specs.Inside.{kept_of};
 ghost use Rattle.ep_editor.specs.Kept.{kept_fault, work, work_in};
-ghost use Rattle.ep_editor.specs.Past.{slides, steps_of, AreStepsOf, IsSliderOf, hears_slid};
+ghost use Rattle.ep_editor.specs.Past.{hears_slid, slides};
 ghost use Rattle.ep_editor.specs.Replies.{Past};
 ghost use Rattle.ep_editor.specs.Requests.{Request, answer, is_busy};
 ghost use Rattle.ep_editor.specs.Requests.Request.{EntersAgain};
@@ -15,8 +15,9 @@ ghost use Rattle.ep_editor.specs.declared.editor.Editor.TheVariants.{Inside};
 ghost use Rattle.ep_editor.specs.declared.editor.Wanted.{Wanted as AnyWanted};
 ghost use Rattle.ep_editor.specs.declared.entered.Entered.{Entered as AnyEntered};
 ghost use Rattle.ep_editor.specs.declared.kept.Kept.{Kept as AnyKept};
-ghost use Rattle.ep_editor.specs.declared.slider.Asked.{Asked as AnyAsked};
 ghost use Rattle.ep_hearing.specs.declared.meaning.Slid.{Slid as AnySlid};
+ghost use Rattle.ep_timeslider.specs.Steps.{AreStepsOf, IsSliderOf, steps_of};
+ghost use Rattle.ep_timeslider.specs.declared.slider.Asked.{Asked as AnyAsked};
 
 /// Whatever is asked, the client takes only steps that the client rules allow, and what is sent of edits is what these
 /// submit.

@@ -13,7 +13,6 @@ mod kept;
 mod laws;
 mod past;
 mod ready;
-mod slider;
 
 pub use bad::EditorBad;
 pub use editor::{Editor, Said, State, Wanted};
@@ -23,4 +22,3 @@ pub use laws::{
     a_lost_connection_loses_no_work, answers_each_change_of_the_view, keeps_the_client_rules,
     the_slider_shows_the_history, what_is_kept_goes_on,
 };
-pub use slider::{Asked, Place, Slid, Slider, Step};

@@ -6,8 +6,8 @@ ghost use Rattle.ep_editor.specs.Past.{hears_slid, slides, slides_by, slid_to, s
 
 use crate::bad::EditorBad;
 use crate::entered::Entered;
-use crate::slider::{Asked, Place, Slid, question, steps_of};
 use ep_hearing::Slid as Steps;
+use ep_timeslider::{Asked, Place, Slid, question, steps_of};
 use ep_units::NoMemory;
 use std::alloc::Global;
 

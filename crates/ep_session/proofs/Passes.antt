@@ -89,7 +89,7 @@ desk_legal Legal u v e kind r (inl asks) legal = asks.legal
 desk_legal Legal u v e kind r (inr (short, same)) legal = subst (λ (w : Known DirEntry DirReply). Legal (pairs w.seen)) (sym same) legal
 
 -- a call of a hall was made
-pub noted : {B : Type 0} (Legal : List (Wanted × Answer B) → Type 0) (u v : Known Wanted (Answer B)) (name : Wanted) (r : Answer B) → Notes Legal u name r v → own v ≡ own u ++ (name, r) ∷ []
+pub noted : (Legal : List (Wanted × Answer) → Type 0) (u v : Known Wanted Answer) (name : Wanted) (r : Answer) → Notes Legal u name r v → own v ≡ own u ++ (name, r) ∷ []
 noted Legal u v name r n = one_more u v name r n.number n.own
 
 -- a history that was legal is legal behind a call, or where memory ran out before it

@@ -1,5 +1,5 @@
 -- Stacks in code.
-use Rattle.std.proofs.Common.{◌≡◌, true, false, ℕ, zero, suc, ◌+◌, ◌≤◌, List, [], ◌∷◌, ◌++◌, map, length, take, drop, vec_len, vec_capacity, Result, Ok, Err, inl, inr, refl, sym, ap, ap₂, ◌∙◌, subst, arith}
+use Rattle.std.proofs.Common.{◌≡◌, true, false, ℕ, zero, suc, ◌+◌, ◌≤◌, List, [], ◌∷◌, ◌++◌, map, length, take, drop, vec_len, vec_capacity, Result, Ok, Err, inl, inr, refl, sym, ap, ap₂, ◌∙◌, subst, arith, append-nil}
 use Rattle.std.specs.Prelude.{OnOk, OnErr}
 use Rattle.std.proofs.lemmas.List.{map-append, length-append, length-map, take_all}
 use Rattle.ep_cs.specs.Change.{Change}
@@ -265,3 +265,8 @@ alike-under old new xs ys t e f a =
           (b.0, chain-top ys t b.0 h.0 view b.1 h.2);
       count = length-top ys t ∙ ap (λ n. n + 1) a.count ∙ sym (length-top xs t);
     }))
+
+-- nothing is left to copy
+pub all-copied : (rs rest old : List Record) → length rest ≡ 0 → map essence rs ++ map essence rest ≡ map essence old → map essence rs ≡ map essence old
+all-copied rs [] old none e = sym (append-nil (map essence rs)) ∙ e
+all-copied rs (r ∷ rest) old none e = absurd (omega (arith, none))

@@ -1,6 +1,7 @@
 -- Whether a stack has a top.
-use Rattle.std.proofs.Common.{◌≡◌, true, List, [], ◌∷◌, refl, sym, ◌∙◌}
+use Rattle.std.proofs.Common.{◌≡◌, true, List, [], ◌∷◌, refl, sym, ap, arith, false, ◌∙◌, ℕ, length, ◌==◌, not}
 use Rattle.std.specs.Prelude.{is_some}
+use Rattle.std.proofs.lemmas.Bool.Decides.{nat_tests}
 use Rattle.ep_cs.specs.Edit.{Edit}
 use Rattle.ep_undo.specs.Undo.{top}
 use Rattle.ep_undo.specs.Undo as undo
@@ -23,3 +24,8 @@ stays-some (r ∷ rs) us e = stays-some rs (all_down (edits_of r.heard.items) (r
 pub top-records : (rs : List Record) → has_records rs ≡ is_some (top (stood rs []))
 top-records [] = refl
 top-records (r ∷ rs) = sym (stays-some rs (all_down (edits_of r.heard.items) (r.change.edit ∷ [])) (some-all_down (edits_of r.heard.items) (r.change.edit ∷ [])))
+
+-- where there are some their count isn't 0
+pub counted-records : (rs : List Record) (n : ℕ) → n ≡ length rs → not (n == 0) ≡ has_records rs
+counted-records [] n e = rw e refl
+counted-records (r ∷ rs) n e = ap not (let h : (n == 0) ≡ false = grind (arith, nat_tests, e) in h)

@@ -1,12 +1,13 @@
 //! Stacks of edits that can be made.
 
 ghost use Rattle.std.specs.Prelude.{◌≡◌, ◌+◌, ◌<◌, ◌≤◌, ◌++◌, ◌∷◌, [], true, is_some, length, take, vec_len, vec_capacity, IfOk, OnOk, OnErr, IsOk};
+ghost use Rattle.std.specs.VecDeque.{deque_capacity, deque_len};
 ghost use Rattle.ep_cs.specs.Doc.{Doc};
 ghost use Rattle.ep_cs.specs.Edit.{apply};
 ghost use Rattle.ep_cs.specs.Fits.{Fits};
 ghost use Rattle.ep_history.specs.Kept.{kept_edited};
 ghost use Rattle.ep_invert.specs.Inverse.{inverse};
-ghost use Rattle.ep_undo.specs.Stacks.{essence, has_records, stood, AreAlike, AreHeard, HasRoom, IsSettled, IsStackOf, IsToHear, IsWay, Makes, Waits};
+ghost use Rattle.ep_undo.specs.Stacks.{essence, stood, AreAlike, AreHeard, HasRoom, IsSettled, IsStackOf, IsToHear, IsWay, Makes, Waits};
 ghost use Rattle.ep_undo.specs.Undo.{top};
 
 use ep_client::{Client, Told};
@@ -15,6 +16,7 @@ use ep_follow::follow;
 use ep_invert::invert;
 use ep_units::NoMemory;
 use std::alloc::Global;
+use std::collections::VecDeque;
 
 /// The most edits of a stack.
 const MOST: usize = 100;
@@ -36,7 +38,7 @@ impl Drop for Record {
 
 /// Edits that can be made, one after the other: the last one is the top.
 pub struct Stack {
-    pub(crate) records: Vec<Record>,
+    pub(crate) records: VecDeque<Record>,
 }
 
 impl Drop for Stack {
@@ -107,7 +109,7 @@ impl Stack {
         ensures { result.records.items ≡ [] }
     {
         Stack {
-            records: Vec::new(alloc),
+            records: VecDeque::new(alloc),
         }
     }
 
@@ -121,9 +123,9 @@ impl Stack {
     pub fn copy(&self, alloc: Global) -> Result<Stack, NoMemory>
         ensures { IfOk result (λ s. AreAlike self.now.records.items s.records.items) }
     {
-        let mut records = Vec::with_capacity(alloc, self.records.len())?;
-        for record in &self.records {
-            records.push(record.copy(alloc)?)?;
+        let mut records = VecDeque::with_capacity(alloc, self.records.len())?;
+        for record in self.records.iter() {
+            records.push_back(record.copy(alloc)?)?;
         }
         Ok(Stack { records })
     }
@@ -132,7 +134,7 @@ impl Stack {
     pub fn has_top(&self) -> bool
         ensures { result ≡ is_some (top (stood self.now.records.items [])) }
     {
-        has_records(self.records.as_slice())
+        !self.records.is_empty()
     }
 
     /// None are left.
@@ -145,19 +147,19 @@ impl Stack {
     /// Makes room for one more.
     pub fn reserve(&mut self) -> Result<(), NoMemory>
         ensures same { self.new.records.items ≡ self.old.records.items }
-        ensures room { OnOk result (vec_len self.new.records < vec_capacity self.new.records) }
+        ensures room { OnOk result (deque_len self.new.records < deque_capacity self.new.records) }
     {
         Ok(self.records.reserve(1)?)
     }
 
     /// One more on top. It makes what the one below is an edit of.
     pub fn push(&mut self, alloc: Global, change: Change)
-        requires { vec_len self.old.records < vec_capacity self.old.records }
+        requires { deque_len self.old.records < deque_capacity self.old.records }
         ensures edits { stood self.new.records.items [] ≡ change.edit ∷ stood self.old.records.items [] }
         ensures chain { (view : Doc) → Fits change view → IsStackOf self.old.records.items (apply change.edit view) → IsStackOf self.new.records.items view }
         ensures count { length self.new.records.items ≡ length self.old.records.items + 1 }
     {
-        self.records.push_reserved(Record {
+        self.records.push_back_reserved(Record {
             change,
             heard: Vec::new(alloc),
         });
@@ -171,7 +173,7 @@ impl Stack {
         ensures count { length self.new.records.items ≤ 100 }
     {
         if self.records.len() > MOST {
-            self.records.remove(0);
+            self.records.pop_front();
         }
     }
 
@@ -179,13 +181,13 @@ impl Stack {
     pub fn reserve_heard(&mut self, more: usize) -> Result<(), NoMemory>
         ensures alike { AreAlike self.old.records.items self.new.records.items }
         ensures can { OnOk result (HasRoom more self.new.records.items) }
-        ensures room { (vec_len self.new.records ≡ vec_len self.old.records) × (vec_capacity self.new.records ≡ vec_capacity self.old.records) }
+        ensures room { (deque_len self.new.records ≡ deque_len self.old.records) × (deque_capacity self.new.records ≡ deque_capacity self.old.records) }
     {
-        let Some(mut top) = self.records.pop() else {
+        let Some(mut top) = self.records.pop_back() else {
             return Ok(());
         };
         let made = top.reserve(more);
-        self.records.push_reserved(top);
+        self.records.push_back_reserved(top);
         made
     }
 
@@ -196,24 +198,15 @@ impl Stack {
         ensures moved { OnOk result (changes.new.items ≡ []) }
         ensures stays { OnErr result (changes.new.items ≡ changes.old.items) }
         ensures succeeds { HasRoom (vec_len changes.old) self.old.records.items → IsOk result }
-        ensures room { (vec_len self.new.records ≡ vec_len self.old.records) × (vec_capacity self.new.records ≡ vec_capacity self.old.records) }
+        ensures room { (deque_len self.new.records ≡ deque_len self.old.records) × (deque_capacity self.new.records ≡ deque_capacity self.old.records) }
     {
-        let Some(mut top) = self.records.pop() else {
+        let Some(mut top) = self.records.pop_back() else {
             changes.clear();
             return Ok(());
         };
         let heard = top.hear(changes);
-        self.records.push_reserved(top);
+        self.records.push_back_reserved(top);
         heard
-    }
-}
-
-fn has_records(records: &[Record]) -> bool
-    ensures { result ≡ has_records records.now }
-{
-    match records {
-        [] => false,
-        [_, ..] => true,
     }
 }
 
@@ -248,7 +241,7 @@ fn make(
     ensures kept { OnErr result (client.new ≡ client.old) }
     ensures rest_kept { OnErr result (AreAlike rest.old.records.items rest.new.records.items) }
     ensures others_kept { OnErr result (other.new.records.items ≡ other.old.records.items) }
-    ensures room { (vec_len rest.new.records ≡ vec_len rest.old.records) × (vec_capacity rest.new.records ≡ vec_capacity rest.old.records) }
+    ensures room { (deque_len rest.new.records ≡ deque_len rest.old.records) × (deque_capacity rest.new.records ≡ deque_capacity rest.old.records) }
 {
     let Settled { change, mut heard } = top.settled(alloc)?;
     let back = invert(alloc, &change, client.view())?;
@@ -274,13 +267,13 @@ pub fn make_top(
     ensures chain { OnOk result (IsStackOf stack.new.records.items client.new.view × IsStackOf other.new.records.items client.new.view) }
     ensures kept { OnErr result ((client.new ≡ client.old) × AreAlike stack.old.records.items stack.new.records.items × (other.new.records.items ≡ other.old.records.items)) }
 {
-    let Some(top) = stack.records.pop() else {
+    let Some(top) = stack.records.pop_back() else {
         return Ok(None);
     };
     match make(alloc, client, &top, stack, other) {
         Ok(change) => Ok(Some(change)),
         Err(NoMemory) => {
-            stack.records.push_reserved(top);
+            stack.records.push_back_reserved(top);
             Err(NoMemory)
         }
     }

@@ -1,10 +1,10 @@
 //! The reply to a line.
 
 use crate::asked::carry_out;
-use crate::lines::Line;
 use crate::refusal::{Refusal, Stopped};
 use crate::reply::Reply;
 use ep_editor::Editor;
+use ep_lines::Line;
 use serde_json::Value;
 use serde_json::error::Category;
 use std::alloc::{AllocError, Global};

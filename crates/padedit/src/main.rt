@@ -5,20 +5,22 @@
 mod answer;
 mod asked;
 mod kept;
-mod lines;
 mod members;
 mod refusal;
 mod reply;
 mod words;
 
 use crate::answer::answer;
-use crate::lines::{Line, Lines};
 use ep_edge::StdSource;
 use ep_editor::Editor;
-use ep_outside::{Failed, Source};
+use ep_lines::{Line, Lines, LinesBad};
+use ep_outside::Source;
 use std::alloc::AllocError;
 use std::io;
 use std::process::ExitCode;
+
+/// The most bytes of a line. A longer one is passed over, and answered as one that is no JSON.
+const MOST_LINE: usize = 67_108_864;
 
 /// Why the program ends before its input does.
 enum Stop {
@@ -29,9 +31,12 @@ enum Stop {
     NoMemory,
 }
 
-impl From<Failed> for Stop {
-    fn from(_error: Failed) -> Stop {
-        Stop::Input
+impl From<LinesBad> for Stop {
+    fn from(bad: LinesBad) -> Stop {
+        match bad {
+            LinesBad::Fault | LinesBad::Endless => Stop::Input,
+            LinesBad::NoMemory => Stop::NoMemory,
+        }
     }
 }
 
@@ -68,7 +73,7 @@ fn answer_line<R: Print + AllocGlobal>(
     editor: &mut Editor,
     line: &Line,
 ) -> Result<(), Stop> {
-    if line.is_empty() {
+    if matches!(line, Line::Text(bytes) if bytes.is_empty()) {
         return Ok(());
     }
     let reply = answer(rt.alloc(), editor, line)?;
@@ -83,7 +88,7 @@ impl Asking {
         rt: &R,
         source: &mut S,
     ) -> Result<bool, Stop> {
-        match self.lines.next_line(rt.alloc(), source)? {
+        match self.lines.next_line(source)? {
             Some(line) => answer_line(rt, &mut self.editor, &line).map(|()| true),
             None => Ok(false),
         }
@@ -108,7 +113,7 @@ fn main(rt: HostRuntime) -> ExitCode {
     let mut source = StdSource::new(rt.reader());
     let mut asking = Asking {
         editor: Editor::new(),
-        lines: Lines::new(rt.alloc()),
+        lines: Lines::new(rt.alloc(), MOST_LINE),
     };
     let told = match asking.answer_all(&rt, &mut source) {
         Ok(()) => return ExitCode::SUCCESS,

@@ -247,9 +247,10 @@ fn an_opening_holds_nobody_else(rt: HostRuntime) -> Result<(), Fail> {
     let gate = Arc::new(alloc, Gate::new())?;
     gate.armed.store(true, Ordering::SeqCst);
     let pads = held_pads(alloc, &gate)?;
+    let mut a = pass_of(&rt, alloc, &pads, "a")?;
     let (first, second) = join(
         &rt,
-        || enters(&rt, alloc, &pads, "a"),
+        || adds(&rt, &mut a, 1, 1),
         || enters_meanwhile(&rt, alloc, &pads, &gate),
     );
     assert!(&rt; first && second);

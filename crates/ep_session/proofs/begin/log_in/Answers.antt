@@ -37,3 +37,9 @@ returns-clause-done g c =
 
 pub returns-clause-legal : goal.returns-clause-legal
 returns-clause-legal g c = asked_legal g.P.Store.Disk.told g.P.Store.Device.failures _ _ _ _ (λ r. reply.Welcome r) _ _ c.login.ensures.pad.2 c.login.ensures.asks
+
+pub returns-in_err-welcome-clause-legal : goal.returns-in_err-welcome-clause-legal
+returns-in_err-welcome-clause-legal g c = asked_legal g.P.Store.Disk.told g.P.Store.Device.failures _ _ _ _ (λ r. reply.Welcome r) _ _ c.login.ensures.pad.2 c.login.ensures.asks
+
+pub returns-in_err-copy-clause-legal : goal.returns-in_err-copy-clause-legal
+returns-in_err-copy-clause-legal g c = asked_legal g.P.Store.Disk.told g.P.Store.Device.failures _ _ _ _ (λ r. reply.Welcome r) _ _ c.login.ensures.pad.2 c.login.ensures.asks

@@ -5,7 +5,7 @@ use Rattle.ep_pad.specs.declared.entries.PadEntry.TheVariants as entry
 use Rattle.ep_pad.specs.declared.entries.PadReply.TheVariants as reply
 use Rattle.ep_wire_words.specs.declared.server.ServerMsg.TheVariants as msg
 use Rattle.ep_session.specs.Session.{Called, Rejoin, Fetch, Hear, rejoined, rejoin_place}
-use Rattle.ep_session.proofs.Passes.{answered}
+use Rattle.ep_session.proofs.Passes.{answered, asked_legal}
 use Rattle.ep_session.proofs.Running.{one_then, err_is, called, called_say, asked_failed, rejoined_none, rejoined_some, same_true, other_false}
 use Rattle.ep_session.proofs.begin.rejoin.Goals as goal
 
@@ -52,3 +52,12 @@ returns-clause-done g c =
     (answered (IsLegalFrom g.P.Store.Disk.told g.P.Store.Device.failures (g.P.PadPort.begun c.args.pass.now)) u v e (λ r. reply.CatchUp r) c.resume.result w
     (subst (λ who. AsksOrLacks (IsLegalFrom g.P.Store.Disk.told g.P.Store.Device.failures (g.P.PadPort.begun c.args.pass.now)) u (entry.Resume grant a.rev a.birth who c.now_ms.result) (λ r. reply.CatchUp r) c.resume.result v) c.as_ref.ensures.value c.resume.ensures.asks) c.in_ok-caught.was)
     (c.now_ms.ensures, tt) c.say.ensures.sent
+
+pub returns-in_err-caught-clause-legal : goal.returns-in_err-caught-clause-legal
+returns-in_err-caught-clause-legal g c = asked_legal g.P.Store.Disk.told g.P.Store.Device.failures _ _ _ _ (λ r. reply.CatchUp r) _ _ c.resume.ensures.pad.2 c.resume.ensures.asks
+
+pub returns-then-again-caught-clause-legal : goal.returns-then-again-caught-clause-legal
+returns-then-again-caught-clause-legal g c = asked_legal g.P.Store.Disk.told g.P.Store.Device.failures _ _ _ _ (λ r. reply.CatchUp r) _ _ c.resume.ensures.pad.2 c.resume.ensures.asks
+
+pub returns-clause-legal : goal.returns-clause-legal
+returns-clause-legal g c = asked_legal g.P.Store.Disk.told g.P.Store.Device.failures _ _ _ _ (λ r. reply.CatchUp r) _ _ c.resume.ensures.pad.2 c.resume.ensures.asks

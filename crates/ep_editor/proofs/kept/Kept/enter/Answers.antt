@@ -1,7 +1,7 @@
 use Rattle.std.proofs.Common.{true, ap, ◌∙◌}
 use Rattle.ep_undo.specs.Undo.{undo_started}
 use Rattle.ep_editor.specs.Kept.{kept_fault}
-use Rattle.ep_editor.specs.Past.{slider_at}
+use Rattle.ep_timeslider.specs.Steps.{slider_at}
 use Rattle.ep_editor.proofs.Keeping.{made-fits, refused-cause}
 use Rattle.ep_editor.proofs.kept.Kept.enter.Goals as goal
 

@@ -1,5 +1,5 @@
 use Rattle.std.proofs.Common.{length}
-use Rattle.ep_editor.proofs.slider.+add_steps.Given as goal
+use Rattle.ep_timeslider.proofs.slider.+add_steps.Given as goal
 
 abbrev pub decreases-add_steps : goal.decreases-add_steps
 decreases-add_steps l = length l.forward.now

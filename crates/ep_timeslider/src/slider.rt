@@ -1,8 +1,7 @@
 //! The timeslider: a document of the pad's history, and steps to others.
 
 ghost use Rattle.std.specs.Prelude.{◌≡◌, ◌++◌, ◌∷◌, [], OnOk, IfOk};
-ghost use Rattle.ep_editor.specs.Comes.{IsOr};
-ghost use Rattle.ep_editor.specs.Past.{all_back, all_on, answers, asking, granularity_of, leads, one_back, one_on, question, reach_of, slider_at, steps_from, steps_of, walked};
+ghost use Rattle.ep_timeslider.specs.Steps.{IsOr, all_back, all_on, answers, asking, granularity_of, leads, one_back, one_on, question, reach_of, slider_at, steps_from, steps_of, walked};
 
 use ep_apply::{Doc, apply, fits};
 use ep_client::ClientBad;
@@ -167,7 +166,7 @@ fn reach(away: u64) -> u64
 }
 
 /// What is asked for, to come from one revision to another.
-pub(crate) fn question(at: u64, to: u64) -> Asked
+pub fn question(at: u64, to: u64) -> Asked
     ensures { result ≡ question at to }
 {
     if at < to {
@@ -186,7 +185,7 @@ pub(crate) fn question(at: u64, to: u64) -> Asked
 
 impl Asked {
     /// The message that asks for it.
-    pub(crate) fn message(self) -> ClientMsg
+    pub fn message(self) -> ClientMsg
         ensures { result ≡ asking self }
     {
         ClientMsg::Slide {
@@ -197,7 +196,7 @@ impl Asked {
     }
 
     /// Whether these steps answer it.
-    pub(crate) fn is_answered(self, steps: &Steps) -> bool
+    pub fn is_answered(self, steps: &Steps) -> bool
         ensures { result ≡ answers steps.now self }
     {
         (steps.start == self.start && steps.granularity == self.granularity)
@@ -250,7 +249,7 @@ fn push_step(
 }
 
 /// The steps that came.
-pub(crate) fn steps_of(alloc: Global, came: &Steps) -> Result<Listed<Step>, NoMemory>
+pub fn steps_of(alloc: Global, came: &Steps) -> Result<Listed<Step>, NoMemory>
     ensures { IfOk result (λ steps. steps ≡ steps_of came.now) }
 {
     let mut steps = Listed::new(alloc);
@@ -288,7 +287,7 @@ impl Slider {
     }
 
     /// As near to a revision as its steps lead from where it stands.
-    pub(crate) fn walk(&self, alloc: Global, to: u64) -> Result<Place, ClientBad>
+    pub fn walk(&self, alloc: Global, to: u64) -> Result<Place, ClientBad>
         ensures { IsOr result (walked to self.now.steps self.now.place) }
     {
         let at = self.place(alloc)?;
@@ -296,7 +295,7 @@ impl Slider {
     }
 
     /// The same by other steps.
-    pub(crate) fn walk_by(&self, alloc: Global, steps: &[Step], to: u64) -> Result<Place, ClientBad>
+    pub fn walk_by(&self, alloc: Global, steps: &[Step], to: u64) -> Result<Place, ClientBad>
         ensures { IsOr result (walked to steps.now self.now.place) }
     {
         let at = self.place(alloc)?;
