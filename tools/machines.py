@@ -1,4 +1,4 @@
-#!/usr/bin/env python3
+#!/usr/bin/python3
 """Tries two servers behind HAProxy, which sends each pad to its server by the pad's name.
 
     tools/machines.py [--seconds N] [--figures] COMMAND..
@@ -36,7 +36,7 @@ MISSING = [] if shutil.which("haproxy") else ["Debian's package haproxy"]
 try:
     import websockets
 except ImportError:
-    MISSING.append("Python's websockets")
+    MISSING.append("Debian's package python3-websockets (run this with /usr/bin/python3)")
 
 TOP = pathlib.Path(__file__).resolve().parent.parent
 CLIENTS, PADS, EACH = 20, 40, 4

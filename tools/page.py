@@ -528,6 +528,23 @@ class Test:
         self.agree("begin" + text + "ended\n", 60)
         self.shoot("large")
 
+    def large_unseen(self):
+        """Lines of a large text that nobody saw yet are painted, cut through, joined and broken, and have it once they are seen."""
+        text = self.open_large()
+        self.b.keys(Keys.CONTROL + "a")
+        self.b.keys(Keys.CONTROL + "i")
+        self.b.wait("saved", 60)
+        change(self.server, self.a.pad, large_cut(text), [["underline", "true"]])
+        editor = "document.querySelector('#text .CodeMirror').CodeMirror"
+        until(lambda: self.a.run(f"return {editor}.lineCount()") == text.count("\n") - 8, "nine lines less", 60)
+        seen = lambda style: self.a.run("return document.querySelectorAll(`#text .CodeMirror-code .${arguments[0]}`).length", style)
+        for place in (Keys.HOME, Keys.END):
+            self.a.keys(Keys.CONTROL + place)
+            until(lambda: seen("is-bold") and seen("is-italic"), "what is seen is bold and italic")
+        self.a.run(f"{editor}.scrollIntoView({{ line: 3001, ch: 10 }})")
+        until(lambda: seen("is-underline") == 1, "what was put there is underlined")
+        self.agree(seconds=60)
+
     def figures(self):
         """How long a key takes in a text of 1,000,000 units and in an empty one, and what the windows take of memory."""
         for name, open_pad, place in (("empty", lambda: self.fresh(""), Keys.HOME), ("large", self.open_large, Keys.HOME),
@@ -613,9 +630,18 @@ def large_change(text):
     return f"Z:{base36(len(text) + 1)}>0{''.join(out)}$"
 
 
+def large_cut(text):
+    """From within line 3000 to within line 3010 all goes, and in the line behind that an underlined x and a line feed come."""
+    line = text.index("\n") + 1
+    gone, rest = 10 * line - 30, line - 40
+    steps = (f"|{base36(3000)}={base36(3000 * line)}={base36(30)}|{base36(10)}-{base36(gone)}-{base36(40)}"
+             f"|1={base36(rest)}={base36(10)}*0|1+2")
+    return f"Z:{base36(len(text) + 1)}<{base36(gone + 40 - 2)}{steps}$x\n"
+
+
 POINTS = ["one_place", "both_ends", "an_emoji", "a_line_break", "an_input_method", "a_paste", "bold_over_another", "undo", "undo_of_a_deletion", "a_cut",
           "a_kill", "no_server", "a_reader", "a_denied_pad", "userdup", "a_deletion", "slider", "a_reload", "own_tokens", "no_markup", "policy",
-          "right_to_left", "keyboard", "start_page", "large",
+          "right_to_left", "keyboard", "start_page", "large", "large_unseen",
           "firefox"]  # and "figures", which is only measured
 
 
