@@ -31,6 +31,40 @@ enum Step {
     Redoes,
 }
 
+/// Why a step isn't taken.
+#[derive(Clone, Copy, Debug, PartialEq, Eq)]
+enum StepBad {
+    NoMemory,
+    /// It is refused for what it is.
+    Refused,
+    /// Memory was wanting, and the client isn't as it was before.
+    Changed,
+}
+
+impl From<NoMemory> for StepBad {
+    fn from(_error: NoMemory) -> StepBad {
+        StepBad::NoMemory
+    }
+}
+
+impl From<ClientBad> for StepBad {
+    fn from(bad: ClientBad) -> StepBad {
+        match bad {
+            ClientBad::NoMemory => StepBad::NoMemory,
+            _ => StepBad::Refused,
+        }
+    }
+}
+
+impl From<SpliceBad> for StepBad {
+    fn from(bad: SpliceBad) -> StepBad {
+        match bad {
+            SpliceBad::NoMemory => StepBad::NoMemory,
+            _ => StepBad::Refused,
+        }
+    }
+}
+
 fn spliced(alloc: Global, doc: &Doc, at: u32, units: u32, text: &str) -> Result<Change, SpliceBad> {
     let text = Units::from_str(alloc, text)?;
     if text.len() > (MOST_UNITS - doc.len()) as usize {
@@ -45,14 +79,18 @@ fn edit(
     at: u32,
     units: u32,
     text: &str,
-) -> Result<bool, Fail> {
+) -> Result<bool, StepBad> {
     let change = spliced(alloc, client.client().view(), at, units, text)?;
     client.edit(alloc, &change)?;
     Ok(true)
 }
 
-fn commit(alloc: Global, client: &mut UndoClient, rev: u64) -> Result<bool, ClientBad> {
-    let submits = client.submit(alloc)?.is_some();
+/// It submits, where it hasn't yet, and hears of that.
+fn commit(alloc: Global, client: &mut UndoClient, rev: u64) -> Result<bool, StepBad> {
+    if client.client().submitted().1.is_none() {
+        client.submit(alloc)?;
+    }
+    let submits = client.client().submitted().1.is_some();
     let told = client.hear(alloc, &Heard::Commit { rev })?;
     Ok(submits && told == Told::Commit)
 }
@@ -64,7 +102,7 @@ fn hear(
     rev: u64,
     at: u32,
     text: &str,
-) -> Result<bool, Fail> {
+) -> Result<bool, StepBad> {
     let news = Heard::Rev {
         rev,
         change: spliced(alloc, client.client().view(), at, 0, text)?,
@@ -74,10 +112,10 @@ fn hear(
 }
 
 /// Whether the step did something.
-fn take(alloc: Global, client: &mut UndoClient, step: Step) -> Result<bool, Fail> {
+fn take(alloc: Global, client: &mut UndoClient, step: Step) -> Result<bool, StepBad> {
     match step {
         Step::Edits(at, units, text) => edit(alloc, client, at, units, text),
-        Step::Commits(rev) => Ok(commit(alloc, client, rev)?),
+        Step::Commits(rev) => commit(alloc, client, rev),
         Step::News(rev, at, text) => hear(alloc, client, rev, at, text),
         Step::Returns => {
             client.lost();
@@ -95,6 +133,24 @@ fn shows(alloc: Global, client: &UndoClient, text: &str) -> Result<bool, NoMemor
     Ok(shown.as_slice() == text.as_slice())
 }
 
+/// Takes a step. Where memory is wanting the client is as before, and takes it again.
+fn take_once(
+    alloc: Global,
+    client: &mut UndoClient,
+    step: Step,
+    before: &str,
+) -> Result<bool, StepBad> {
+    let can = (client.can_undo(), client.can_redo());
+    let taken = take(alloc, client, step);
+    if taken != Err(StepBad::NoMemory) {
+        return taken;
+    }
+    if !shows(alloc, client, before)? || (client.can_undo(), client.can_redo()) != can {
+        return Err(StepBad::Changed);
+    }
+    take(alloc, client, step)
+}
+
 /// A text and a newline.
 fn text(alloc: Global, text: &str) -> Result<Doc, Fail> {
     let line = Doc::newline(alloc)?;
@@ -107,13 +163,20 @@ fn started(alloc: Global, doc: Doc) -> Result<UndoClient, NoMemory> {
     Ok(UndoClient::start(alloc, Client::start(alloc, doc, 0, OWN)?))
 }
 
-/// Whether a client of this text shows these behind the steps, and just those steps that say so did something.
-fn comes_out(alloc: Global, start: &str, steps: &[(Step, bool, &str)]) -> Result<bool, Fail> {
-    let mut client = started(alloc, text(alloc, start)?)?;
+/// Whether a client shows these texts behind the steps, the first one before them, and just those steps that say so did
+/// something.
+fn comes_out(
+    alloc: Global,
+    client: &mut UndoClient,
+    start: &str,
+    steps: &[(Step, bool, &str)],
+) -> Result<bool, StepBad> {
+    let mut before = start;
     for (step, does, shown) in steps {
-        if take(alloc, &mut client, *step)? != *does || !shows(alloc, &client, shown)? {
+        if take_once(alloc, client, *step, before)? != *does || !shows(alloc, client, shown)? {
             return Ok(false);
         }
+        before = *shown;
     }
     Ok(true)
 }
@@ -133,7 +196,9 @@ fn only_its_own_text_goes_and_comes_back(rt: HostRuntime) -> Result<(), Fail> {
         (Step::Undoes, true, "aZb\n"),
         (Step::Undoes, false, "aZb\n"),
     ];
-    assert!(rt; comes_out(rt.alloc(), "ab", &steps)?);
+    let alloc = rt.alloc();
+    let mut client = started(alloc, text(alloc, "ab")?)?;
+    assert!(rt; comes_out(alloc, &mut client, "ab\n", &steps)?);
     Ok(())
 }
 
@@ -150,6 +215,8 @@ fn one_after_the_other(rt: HostRuntime) -> Result<(), Fail> {
         (Step::Redoes, false, "abc\n"),
         (Step::Undoes, true, "ab\n"),
     ];
-    assert!(rt; comes_out(rt.alloc(), "b", &steps)?);
+    let alloc = rt.alloc();
+    let mut client = started(alloc, text(alloc, "b")?)?;
+    assert!(rt; comes_out(alloc, &mut client, "b\n", &steps)?);
     Ok(())
 }
