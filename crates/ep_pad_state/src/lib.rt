@@ -23,3 +23,4 @@ pub use entering::LoggedIn;
 pub use ep_history::PadBad;
 pub use ep_step::Committed;
 pub use pad::{Last, Pad};
+pub use readings::Past;

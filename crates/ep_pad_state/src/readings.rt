@@ -4,15 +4,22 @@ use crate::answers::{Fetched, PadStatus, Piece};
 use crate::birth::Birth;
 use crate::pad::Pad;
 use ep_apply::Doc;
-use ep_history::PadBad;
+use ep_history::{PadBad, Rev};
 use ep_units::Session;
 use std::alloc::Global;
 
 /// How many revisions a fetch gives at most.
 const FETCH_SIZE: u64 = 64;
 
+/// All revisions of a birth, the first of them its creation's, and whether anybody may enter.
+#[derive(Clone, Copy)]
+pub struct Past<'a> {
+    pub revs: &'a [Rev],
+    pub public: bool,
+}
+
 impl Pad {
-    ghost use Rattle.std.specs.Prelude.{◌≡◌, ◌≤◌, Some, None, MatchResult};
+    ghost use Rattle.std.specs.Prelude.{◌≡◌, ◌≤◌, ◌∷◌, true, false, Some, None, MatchResult};
     ghost use Rattle.ep_history.specs.Pad.{PadState, newest};
     ghost use Rattle.ep_history.specs.Readings.{dead_fault};
     ghost use Rattle.ep_pad_state.specs.Held.{IsBirth, IsPad};
@@ -31,6 +38,19 @@ impl Pad {
             return Err(PadBad::NoRev(head));
         }
         Ok(birth.doc_at(alloc, rev)?)
+    }
+
+    /// All revisions of the last birth, where it is there.
+    pub fn past(&self) -> Result<Past<'_>, PadBad>
+        ensures { (p : PadState) → IsPad self.now p → MatchResult result
+            (λ past. (p.present ≡ true) × (past.revs.now ≡ (newest p).first ∷ (newest p).later) × (past.public ≡ p.public))
+            (λ bad. (bad ≡ PadBad.Gone) × (p.present ≡ false)) }
+    {
+        let birth = self.birth()?;
+        Ok(Past {
+            revs: birth.revs.all(),
+            public: self.public,
+        })
     }
 
     /// The document of a revision, and so many revisions behind it, all where they are fewer.

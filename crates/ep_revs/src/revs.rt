@@ -188,6 +188,13 @@ impl Revs {
         &self.revs[i as usize]
     }
 
+    /// All of them, the first one first.
+    pub fn all(&self) -> &[Rev]
+        ensures { result.now ≡ self.now.revs }
+    {
+        &self.revs
+    }
+
     /// The revisions after one, each of which was made to the document of those before it.
     pub fn since(&self, base: u64) -> &[Rev]
         requires { base < length self.now.revs }

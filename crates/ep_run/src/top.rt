@@ -13,6 +13,7 @@ ghost use Rattle.ep_run.specs.Writing.{WritesPad};
 
 use crate::judge::verify_to;
 use crate::making::make_to;
+use crate::moving::{export_pad, import_pad};
 use crate::say::say;
 use crate::script::play;
 use crate::serving::serve_callers;
@@ -26,7 +27,7 @@ use std::sync::Wait;
 use std::thread::Threads;
 
 const USAGE: &str =
-    "usage: padd play [NAME] | serve PADS API DIR KEY | write ADDR PAD TOKEN | verify DIR WORKERS | make NUMBER CLIENTS EDITS\n";
+    "usage: padd play [NAME] | serve PADS API DIR KEY | write ADDR PAD TOKEN | verify DIR WORKERS | make NUMBER CLIENTS EDITS | export DIR PAD | import DIR PAD\n";
 
 /// Does all that the program does. The host says what is done for a caller of the server. Status 7, want of memory, may
 /// come at any time.
@@ -113,6 +114,8 @@ where
                 edits,
             },
         ) => make_to(alloc, sink, number, clients as u32, edits as u32),
+        Ok(Command::Export { pad, .. }) => export_pad(alloc, shelf, sink, &pad),
+        Ok(Command::Import { pad, .. }) => import_pad(alloc, source, sink, shelf, &pad),
         Err(WordsBad::Usage) => say(sink, USAGE, 2),
         Err(WordsBad::NoMemory) => Status { code: 7 },
     }

@@ -31,7 +31,7 @@ const NO_LIMITS: Limits = Limits {
 };
 
 /// Why a file's records tell no pad.
-enum Unread {
+pub enum Unread {
     /// The index of the first that is no record, or can't come there.
     At(u64),
     NoMemory,
@@ -46,7 +46,7 @@ impl From<NoMemory> for Unread {
 }
 
 /// The pad that a file's records tell.
-fn reread(alloc: Global, records: &Records) -> Result<Pad, Unread>
+pub fn reread(alloc: Global, records: &Records) -> Result<Pad, Unread>
     ensures pad { (file : List ℕ) → records_of file ≡ records.now → IfOk result (λ pad. (rs : List Record) × IsFront no_limits file rs (length records.now) × IsPad pad (told no_limits rs)) }
     ensures bad { (file : List ℕ) (k : ℕ) → records_of file ≡ records.now → IfErr result (λ why. why ≡ unread.At k → IsBadAt no_limits file k) }
 {

@@ -15,7 +15,9 @@ mod verdicts;
 mod verify_bad;
 mod window;
 
+pub use file::{Measured, measure, open_disk, read_whole};
+pub use judging::{Unread, reread};
 pub use laws::files_have_one_verdict;
 pub use verdict::{Verdict, What};
-pub use verdicts::verify;
+pub use verdicts::{find_names, verify};
 pub use verify_bad::VerifyBad;

@@ -18,7 +18,7 @@ use std::alloc::Global;
 use std::thread::Threads;
 
 /// The names of a shelf.
-fn find_names<H: Shelf>(shelf: &mut H) -> Result<Vec<PadId>, VerifyBad<H::D>>
+pub fn find_names<H: Shelf>(shelf: &mut H) -> Result<Vec<PadId>, VerifyBad<H::D>>
     ensures value { IfOk result (λ found. AreNamed (H.names shelf.old) found.items) }
     ensures sorted { IfOk result (λ found. IsTrue (rises found.items)) }
     ensures told { (name : List ℕ) → H.told shelf.new name ≡ H.told shelf.old name }

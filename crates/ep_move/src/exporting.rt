@@ -1,0 +1,130 @@
+//! A history that goes out of its pad's file.
+
+ghost use Rattle.std.specs.Prelude.{◌≡◌, ◌≢◌, ◌≤◌, ◌⊎◌, ℕ, List, Some, true, false, IfErr, IfOk, OnOk};
+ghost use Rattle.std.specs.String.{string_bytes};
+ghost use Rattle.ep_outside.specs.Outside.{HasRisen, Takes, TakesPart};
+ghost use Rattle.ep_history.specs.Pad.{PadState};
+ghost use Rattle.ep_pad_state.specs.Held.{IsPad};
+ghost use Rattle.ep_verify.specs.Verdicts.{Tells};
+ghost use Rattle.ep_move.specs.Moving.{ExportFails, IsExported, IsFileOf, HasLine};
+ghost use Rattle.ep_move.specs.Told.{IsWritten};
+
+use crate::lines::Reason;
+use crate::moved::Moved;
+use crate::told::{NoPad, told_by};
+use ep_export::{ExportBad, export};
+use ep_history::{PadBad, Rev};
+use ep_import::births_can_be_exported;
+use ep_outside::{Shelf, Sink};
+use ep_pad_state::Pad;
+use ep_past::births_are_revisions;
+use ep_units::{NoMemory, PadId};
+use ep_verify::{VerifyBad, find_names, measure, open_disk, read_whole};
+use std::alloc::Global;
+
+/// What is to be written of a pad.
+#[derive(Drop)]
+pub struct Line {
+    pub text: String,
+    /// It says why nothing else is written.
+    pub refuses: bool,
+}
+
+/// The line of a refusal.
+fn refused(alloc: Global, pad: &PadId, why: Reason) -> Result<Line, NoMemory> {
+    let text = why.line(alloc, pad)?;
+    Ok(Line {
+        text,
+        refuses: true,
+    })
+}
+
+/// The text of a history, with a line's end.
+fn whole(text: String) -> Result<Line, NoMemory> {
+    let mut text = text;
+    text.push('\n')?;
+    Ok(Line {
+        text,
+        refuses: false,
+    })
+}
+
+/// What is to be written of a birth's revisions.
+fn line_of(alloc: Global, pad: &PadId, revs: &[Rev], public: bool) -> Result<Line, NoMemory> {
+    match export(alloc, pad, revs, public) {
+        Ok(text) => whole(text),
+        Err(ExportBad::Time(n)) => refused(alloc, pad, Reason::Time(n)),
+        Err(ExportBad::NoMemory) => Err(NoMemory),
+    }
+}
+
+/// What is to be written of a pad that a file tells.
+fn line_on(alloc: Global, pad: &PadId, told: &Pad) -> Result<Line, NoMemory> {
+    births_are_revisions();
+    births_can_be_exported();
+    match told.past() {
+        Ok(past) => line_of(alloc, pad, past.revs, past.public),
+        Err(PadBad::Gone) => refused(alloc, pad, Reason::Gone),
+        Err(_) => Err(NoMemory),
+    }
+}
+
+/// What is to be written of a pad's file.
+fn line_in(alloc: Global, pad: &PadId, bytes: &[u8]) -> Result<Line, NoMemory>
+    ensures { IfOk result (λ line. IsWritten pad.now bytes.now line.refuses (string_bytes line.text)) }
+{
+    match told_by(alloc, bytes) {
+        Ok(told) => line_on(alloc, pad, &told),
+        Err(NoPad::Foreign) => refused(alloc, pad, Reason::Foreign),
+        Err(NoPad::Record(k)) => refused(alloc, pad, Reason::Record(k)),
+        Err(NoPad::NoMemory) => Err(NoMemory),
+    }
+}
+
+/// All bytes of a pad's file; none where the shelf has no file of that name.
+fn file_of<H: Shelf>(
+    alloc: Global,
+    shelf: &mut H,
+    pad: &PadId,
+) -> Result<Option<Vec<u8>>, VerifyBad<H::D>> {
+    if !is_named(shelf, pad)? {
+        return Ok(None);
+    }
+    let disk = open_disk(shelf, pad)?;
+    let measured = measure(disk)?;
+    Ok(Some(read_whole(alloc, measured)?))
+}
+
+/// Whether the shelf has a file of that name.
+fn is_named<H: Shelf>(shelf: &mut H, pad: &PadId) -> Result<bool, VerifyBad<H::D>> {
+    let names = find_names(shelf)?;
+    Ok(names.contains(pad))
+}
+
+/// Writes a line, and answers how moving the pad ended.
+fn write_line<K: Sink>(sink: &mut K, line: &Line) -> Moved {
+    match sink.write(line.text.as_bytes()) {
+        Ok(()) if line.refuses => Moved::Refused,
+        Ok(()) => Moved::All,
+        Err(_) => Moved::SinkFault,
+    }
+}
+
+/// Writes the whole history of a pad of a shelf, or why there is none. Its file is read, and nothing is written to it.
+pub fn export_to<H: Shelf, K: Sink>(
+    alloc: Global,
+    shelf: &mut H,
+    sink: &mut K,
+    pad: &PadId,
+) -> Moved {
+    let line = match file_of(alloc, shelf, pad) {
+        Ok(Some(bytes)) => line_in(alloc, pad, &bytes),
+        Ok(None) => refused(alloc, pad, Reason::Gone),
+        Err(VerifyBad::NoMemory) => Err(NoMemory),
+        Err(_) => return Moved::DiskFault,
+    };
+    match line {
+        Ok(line) => write_line(sink, &line),
+        Err(NoMemory) => Moved::NoMemory,
+    }
+}
