@@ -2,3 +2,4 @@ pub mod Text
 pub mod Lines
 pub mod Told
 pub mod Moving
+pub mod Stopped

@@ -1,13 +1,17 @@
 //! A history that goes out of its pad's file.
 
-ghost use Rattle.std.specs.Prelude.{◌≡◌, ◌≢◌, ◌≤◌, ◌⊎◌, ℕ, List, Some, true, false, IfErr, IfOk, OnOk};
+ghost use Rattle.std.specs.Prelude.{◌≡◌, ◌≢◌, ◌≤◌, ◌⊎◌, ℕ, List, true, false, option_map, IfErr, IfOk};
 ghost use Rattle.std.specs.String.{string_bytes};
-ghost use Rattle.ep_outside.specs.Outside.{HasRisen, Takes, TakesPart};
+ghost use Rattle.ep_outside.specs.Outside.{HasRisen};
 ghost use Rattle.ep_history.specs.Pad.{PadState};
 ghost use Rattle.ep_pad_state.specs.Held.{IsPad};
 ghost use Rattle.ep_verify.specs.Verdicts.{Tells};
-ghost use Rattle.ep_move.specs.Moving.{ExportFails, IsExported, IsFileOf, HasLine};
-ghost use Rattle.ep_move.specs.Told.{IsWritten};
+ghost use Rattle.ep_outside.specs.Shelf.{Holds};
+ghost use Rattle.ep_past.specs.Revisions.{AreRevisions};
+ghost use Rattle.ep_verify.specs.Refusals.{IsCause};
+ghost use Rattle.ep_move.specs.Lines.{line as with_end, refusal};
+ghost use Rattle.ep_move.specs.Moving.{FailsBy, GoesOut, IsFound, IsNamed, WritesLine};
+ghost use Rattle.ep_move.specs.Told.{HasPast, IsWritten};
 
 use crate::lines::Reason;
 use crate::moved::Moved;
@@ -31,7 +35,9 @@ pub struct Line {
 }
 
 /// The line of a refusal.
-fn refused(alloc: Global, pad: &PadId, why: Reason) -> Result<Line, NoMemory> {
+fn refused(alloc: Global, pad: &PadId, why: Reason) -> Result<Line, NoMemory>
+    ensures { IfOk result (λ line. (line.refuses ≡ true) × (string_bytes line.text ≡ refusal pad.now why)) }
+{
     let text = why.line(alloc, pad)?;
     Ok(Line {
         text,
@@ -40,7 +46,9 @@ fn refused(alloc: Global, pad: &PadId, why: Reason) -> Result<Line, NoMemory> {
 }
 
 /// The text of a history, with a line's end.
-fn whole(text: String) -> Result<Line, NoMemory> {
+fn whole(text: String) -> Result<Line, NoMemory>
+    ensures { IfOk result (λ line. (line.refuses ≡ false) × (string_bytes line.text ≡ with_end (string_bytes text))) }
+{
     let mut text = text;
     text.push('\n')?;
     Ok(Line {
@@ -50,7 +58,11 @@ fn whole(text: String) -> Result<Line, NoMemory> {
 }
 
 /// What is to be written of a birth's revisions.
-fn line_of(alloc: Global, pad: &PadId, revs: &[Rev], public: bool) -> Result<Line, NoMemory> {
+fn line_of(alloc: Global, pad: &PadId, revs: &[Rev], public: bool) -> Result<Line, NoMemory>
+    requires { AreRevisions revs.now }
+    ensures { (file : List ℕ) → HasPast file revs.now public → IfOk result (λ line. IsWritten pad.now file line.refuses (string_bytes line.text)) }
+{
+    births_can_be_exported();
     match export(alloc, pad, revs, public) {
         Ok(text) => whole(text),
         Err(ExportBad::Time(n)) => refused(alloc, pad, Reason::Time(n)),
@@ -59,9 +71,11 @@ fn line_of(alloc: Global, pad: &PadId, revs: &[Rev], public: bool) -> Result<Lin
 }
 
 /// What is to be written of a pad that a file tells.
-fn line_on(alloc: Global, pad: &PadId, told: &Pad) -> Result<Line, NoMemory> {
+fn line_on(alloc: Global, pad: &PadId, told: &Pad) -> Result<Line, NoMemory>
+    requires { (file : List ℕ) × (p : PadState) × Tells file p × IsPad told.now p }
+    ensures { (file : List ℕ) (p : PadState) → Tells file p → IsPad told.now p → IfOk result (λ line. IsWritten pad.now file line.refuses (string_bytes line.text)) }
+{
     births_are_revisions();
-    births_can_be_exported();
     match told.past() {
         Ok(past) => line_of(alloc, pad, past.revs, past.public),
         Err(PadBad::Gone) => refused(alloc, pad, Reason::Gone),
@@ -86,7 +100,12 @@ fn file_of<H: Shelf>(
     alloc: Global,
     shelf: &mut H,
     pad: &PadId,
-) -> Result<Option<Vec<u8>>, VerifyBad<H::D>> {
+) -> Result<Option<Vec<u8>>, VerifyBad<H::D>>
+    ensures found { IfOk result (λ found. IsFound (H.names shelf.old) (H.told shelf.old pad.now) pad.now (option_map (λ bytes. bytes.items) found)) }
+    ensures refused { IfErr result (IsCause (λ n. (n ≡ H.failures shelf.new) × HasRisen (H.failures shelf.old) (H.failures shelf.new)) (λ d. Holds (H.told shelf.old pad.now) (H.D.told d) × (H.is_steady shelf.old ≡ true → H.D.is_steady d ≡ true) × (1 ≤ H.D.failures d))) }
+    ensures names { H.names shelf.new ≡ H.names shelf.old }
+    ensures steady { H.is_steady shelf.new ≡ H.is_steady shelf.old }
+{
     if !is_named(shelf, pad)? {
         return Ok(None);
     }
@@ -96,13 +115,24 @@ fn file_of<H: Shelf>(
 }
 
 /// Whether the shelf has a file of that name.
-fn is_named<H: Shelf>(shelf: &mut H, pad: &PadId) -> Result<bool, VerifyBad<H::D>> {
+fn is_named<H: Shelf>(shelf: &mut H, pad: &PadId) -> Result<bool, VerifyBad<H::D>>
+    ensures named { IfOk result (λ is. IsNamed (H.names shelf.old) pad.now is) }
+    ensures told { H.told shelf.new pad.now ≡ H.told shelf.old pad.now }
+    ensures names { H.names shelf.new ≡ H.names shelf.old }
+    ensures refused { IfErr result (IsCause (λ n. (n ≡ H.failures shelf.new) × HasRisen (H.failures shelf.old) (H.failures shelf.new)) (λ d. ⊥)) }
+    ensures later { H.failures shelf.old ≤ H.failures shelf.new }
+    ensures steady { H.is_steady shelf.new ≡ H.is_steady shelf.old }
+{
     let names = find_names(shelf)?;
     Ok(names.contains(pad))
 }
 
 /// Writes a line, and answers how moving the pad ended.
-fn write_line<K: Sink>(sink: &mut K, line: &Line) -> Moved {
+fn write_line<K: Sink>(sink: &mut K, line: &Line) -> Moved
+    ensures writes { WritesLine line.now.refuses (string_bytes line.now.text) (K.held sink.old) (K.held sink.new) result }
+    ensures cause { result ≡ Moved.SinkFault → HasRisen (K.failures sink.old) (K.failures sink.new) }
+    ensures sure { K.is_steady sink.old ≡ true → result ≢ Moved.SinkFault }
+{
     match sink.write(line.text.as_bytes()) {
         Ok(()) if line.refuses => Moved::Refused,
         Ok(()) => Moved::All,
@@ -116,7 +146,14 @@ pub fn export_to<H: Shelf, K: Sink>(
     shelf: &mut H,
     sink: &mut K,
     pad: &PadId,
-) -> Moved {
+) -> Moved
+    ensures goes_out { GoesOut (H.names shelf.old) (H.told shelf.old pad.now) pad.now (K.held sink.old) (K.held sink.new) result }
+    ensures names { H.names shelf.new ≡ H.names shelf.old }
+    ensures sink_fault { result ≡ Moved.SinkFault → HasRisen (K.failures sink.old) (K.failures sink.new) }
+    ensures disk_fault { result ≡ Moved.DiskFault → HasRisen (H.failures shelf.old) (H.failures shelf.new) ⊎ FailsBy H.D.told H.D.failures (H.told shelf.old pad.now) }
+    ensures sink_sure { K.is_steady sink.old ≡ true → result ≢ Moved.SinkFault }
+    ensures disk_sure { H.is_steady shelf.old ≡ true → result ≢ Moved.DiskFault }
+{
     let line = match file_of(alloc, shelf, pad) {
         Ok(Some(bytes)) => line_in(alloc, pad, &bytes),
         Ok(None) => refused(alloc, pad, Reason::Gone),

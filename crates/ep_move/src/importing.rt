@@ -1,5 +1,17 @@
 //! A history that comes in and is put into its pad's file.
 
+ghost use Rattle.std.specs.Prelude.{◌≡◌, ◌≢◌, ◌⊎◌, ◌-◌, ◌≤◌, ℕ, List, Option, Some, true, length, option_map, map, IfOk, IfErr, IfSome, IsSome, IsErrOf, OnErr};
+ghost use Rattle.std.specs.String.{string_bytes};
+ghost use Rattle.ep_outside.specs.Disk.{Contents};
+ghost use Rattle.ep_outside.specs.Outside.{HasCause, HasRisen, IsAtEnd, Takes, TakesPart};
+ghost use Rattle.ep_past.specs.Revisions.{AreRevisions};
+ghost use Rattle.ep_import.specs.Imported.{Said};
+ghost use Rattle.ep_import.specs.Seen.{said};
+ghost use Rattle.ep_put.specs.Putting.{HoldsHistory};
+ghost use Rattle.ep_verify.specs.Files.{MayPut};
+ghost use Rattle.ep_move.specs.Moving.{ComesIn, FailsBy, Says, SaysNone};
+ghost use Rattle.ep_move.specs.Stopped.{IsStopped, stop_by_import, stop_by_put, stop_by_text};
+
 use crate::lines::{Reason, imported_line};
 use crate::moved::Moved;
 use crate::putting::{NotPut, put_into};
@@ -24,7 +36,9 @@ enum Stop {
     Ended(Moved),
 }
 
-fn stop_of_text(why: TextBad) -> Stop {
+fn stop_of_text(why: TextBad) -> Stop
+    ensures { result ≡ stop_by_text why }
+{
     match why {
         TextBad::TooBig => Stop::Refused(Reason::TooBig(MOST_BYTES + 1)),
         TextBad::Fault => Stop::Ended(Moved::SourceFault),
@@ -32,7 +46,9 @@ fn stop_of_text(why: TextBad) -> Stop {
     }
 }
 
-fn stop_of_import(why: ImportBad) -> Stop {
+fn stop_of_import(why: ImportBad) -> Stop
+    ensures { result ≡ stop_by_import why }
+{
     match why {
         ImportBad::TooBig(bytes) => Stop::Refused(Reason::TooBig(bytes)),
         ImportBad::NotJson => Stop::Refused(Reason::NotJson),
@@ -43,7 +59,9 @@ fn stop_of_import(why: ImportBad) -> Stop {
     }
 }
 
-fn stop_of_put(why: NotPut) -> Stop {
+fn stop_of_put(why: NotPut) -> Stop
+    ensures { result ≡ stop_by_put why }
+{
     match why {
         NotPut::Refused(why) => Stop::Refused(why),
         NotPut::Fault => Stop::Ended(Moved::DiskFault),
@@ -63,7 +81,12 @@ fn history_in(alloc: Global, pad: &PadId, bytes: &[u8]) -> Result<History, Stop>
 }
 
 /// The history that a source says.
-fn history_from<S: Source>(alloc: Global, source: &mut S, pad: &PadId) -> Result<History, Stop> {
+fn history_from<S: Source>(alloc: Global, source: &mut S, pad: &PadId) -> Result<History, Stop>
+    ensures says { IfOk result (λ h. Says pad.now (S.left source.old) (S.left source.new) (said h)) }
+    ensures revisions { IfOk result (λ h. AreRevisions h.revs.items) }
+    ensures none { IfErr result (IsStopped (SaysNone pad.now (S.left source.old) (S.left source.new))) }
+    ensures cause { HasCause (S.failures source.old) (S.failures source.new) (S.is_steady source.old) (S.is_steady source.new) (IsErrOf result (Stop.Ended Moved.SourceFault)) }
+{
     match read_text(alloc, source) {
         Ok(bytes) => history_in(alloc, pad, &bytes),
         Err(why) => Err(stop_of_text(why)),
@@ -134,7 +157,16 @@ pub fn import_into<S: Source, K: Sink, D: Disk + Drop>(
     sink: &mut K,
     pad: &PadId,
     disk: D,
-) -> Imported<D> {
+) -> Imported<D>
+    ensures comes_in { ComesIn pad.now (S.left source.old) (S.left source.new) (D.told disk) (K.held sink.old) (K.held sink.new) result.moved }
+    ensures done { result.moved ≡ Moved.All → IsSome result.disk }
+    ensures holds { (c : Contents) → D.told disk ≡ Some c → IfSome result.disk (λ d. (h : Said) × Says pad.now (S.left source.old) (S.left source.new) h × HoldsHistory (D.told d) h.revs h.public) }
+    ensures source_fault { result.moved ≡ Moved.SourceFault → HasRisen (S.failures source.old) (S.failures source.new) }
+    ensures sink_fault { result.moved ≡ Moved.SinkFault → HasRisen (K.failures sink.old) (K.failures sink.new) }
+    ensures source_sure { S.is_steady source.old ≡ true → result.moved ≢ Moved.SourceFault }
+    ensures sink_sure { K.is_steady sink.old ≡ true → result.moved ≢ Moved.SinkFault }
+    ensures disk_sure { D.is_steady disk ≡ true → result.moved ≢ Moved.DiskFault }
+{
     match history_from(alloc, source, pad) {
         Ok(history) => put_and_say(alloc, sink, pad, disk, &history),
         Err(stop) => Imported {
@@ -151,7 +183,17 @@ pub fn import_to<S: Source, K: Sink, H: Shelf>(
     sink: &mut K,
     shelf: &mut H,
     pad: &PadId,
-) -> Moved {
+) -> Moved
+    ensures comes_in { ComesIn pad.now (S.left source.old) (S.left source.new) (H.told shelf.old pad.now) (K.held sink.old) (K.held sink.new) result }
+    ensures names { MayPut pad.now (H.names shelf.old) (H.names shelf.new) }
+    ensures source_fault { result ≡ Moved.SourceFault → HasRisen (S.failures source.old) (S.failures source.new) }
+    ensures sink_fault { result ≡ Moved.SinkFault → HasRisen (K.failures sink.old) (K.failures sink.new) }
+    ensures disk_fault { result ≡ Moved.DiskFault → HasRisen (H.failures shelf.old) (H.failures shelf.new) ⊎ FailsBy H.D.told H.D.failures (H.told shelf.old pad.now) }
+    ensures source_sure { S.is_steady source.old ≡ true → result ≢ Moved.SourceFault }
+    ensures sink_sure { K.is_steady sink.old ≡ true → result ≢ Moved.SinkFault }
+    ensures disk_sure { H.is_steady shelf.old ≡ true → result ≢ Moved.DiskFault }
+    ensures read { result ≡ Moved.All → IsAtEnd (S.left source.new) }
+{
     let history = match history_from(alloc, source, pad) {
         Ok(history) => history,
         Err(stop) => return write_stop(alloc, sink, pad, stop),
