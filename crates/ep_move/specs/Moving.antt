@@ -20,7 +20,11 @@ use Rattle.ep_move.specs.declared.lines.Reason.TheVariants as reason
 use Rattle.ep_move.specs.declared.moved.Moved.{Moved}
 use Rattle.ep_move.specs.declared.moved.Moved.TheVariants as moved
 
--- a disk failed that was told what was told of the pad
+-- a disk failed that tells what was told of the pad
+abbrev pub FailsUnwritten : {D : Type 0} → (D → Option Contents) → (D → ℕ) → Option Contents → Type 0
+FailsUnwritten {D} disk_told failures told = (d : D) × Holds told (disk_told d) × (1 ≤ failures d)
+
+-- a disk that told what was told of the pad has failed since
 abbrev pub FailsBy : {D : Type 0} → (D → Option Contents) → (D → ℕ) → Option Contents → Type 0
 FailsBy {D} disk_told failures told = (first : D) × (last : D) × Holds told (disk_told first) × (1 ≤ failures last)
 

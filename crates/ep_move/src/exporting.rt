@@ -10,7 +10,7 @@ ghost use Rattle.ep_outside.specs.Shelf.{Holds};
 ghost use Rattle.ep_past.specs.Revisions.{AreRevisions};
 ghost use Rattle.ep_verify.specs.Refusals.{IsCause};
 ghost use Rattle.ep_move.specs.Lines.{line as with_end, refusal};
-ghost use Rattle.ep_move.specs.Moving.{FailsBy, GoesOut, IsFound, IsNamed, WritesLine};
+ghost use Rattle.ep_move.specs.Moving.{FailsUnwritten, GoesOut, IsFound, IsNamed, WritesLine};
 ghost use Rattle.ep_move.specs.Told.{HasPast, IsWritten};
 
 use crate::lines::Reason;
@@ -150,7 +150,7 @@ pub fn export_to<H: Shelf, K: Sink>(
     ensures goes_out { GoesOut (H.names shelf.old) (H.told shelf.old pad.now) pad.now (K.held sink.old) (K.held sink.new) result }
     ensures names { H.names shelf.new ≡ H.names shelf.old }
     ensures sink_fault { result ≡ Moved.SinkFault → HasRisen (K.failures sink.old) (K.failures sink.new) }
-    ensures disk_fault { result ≡ Moved.DiskFault → HasRisen (H.failures shelf.old) (H.failures shelf.new) ⊎ FailsBy H.D.told H.D.failures (H.told shelf.old pad.now) }
+    ensures disk_fault { result ≡ Moved.DiskFault → HasRisen (H.failures shelf.old) (H.failures shelf.new) ⊎ FailsUnwritten H.D.told H.D.failures (H.told shelf.old pad.now) }
     ensures sink_sure { K.is_steady sink.old ≡ true → result ≢ Moved.SinkFault }
     ensures disk_sure { H.is_steady shelf.old ≡ true → result ≢ Moved.DiskFault }
 {

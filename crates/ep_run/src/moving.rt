@@ -2,7 +2,7 @@
 
 ghost use Rattle.std.specs.Prelude.{◌≡◌, ◌≢◌, ◌⊎◌, ◌∷◌, [], true, Contains};
 ghost use Rattle.ep_outside.specs.Outside.{HasRisen, IsAtEnd};
-ghost use Rattle.ep_move.specs.Moving.{FailsBy};
+ghost use Rattle.ep_move.specs.Moving.{FailsBy, FailsUnwritten};
 ghost use Rattle.ep_verify.specs.Files.{MayPut};
 ghost use Rattle.ep_run.specs.Moving.{Exports, ImportsFrom, code_of};
 
@@ -37,7 +37,7 @@ pub fn export_pad<H: Shelf, K: Sink>(
     ensures names { H.names shelf.new ≡ H.names shelf.old }
     ensures known { Contains (0 ∷ 5 ∷ 6 ∷ 7 ∷ 13 ∷ []) result.code }
     ensures sink_fault { result.code ≡ 5 → HasRisen (K.failures sink.old) (K.failures sink.new) }
-    ensures shelf_fault { result.code ≡ 6 → HasRisen (H.failures shelf.old) (H.failures shelf.new) ⊎ FailsBy H.D.told H.D.failures (H.told shelf.old pad.now) }
+    ensures shelf_fault { result.code ≡ 6 → HasRisen (H.failures shelf.old) (H.failures shelf.new) ⊎ FailsUnwritten H.D.told H.D.failures (H.told shelf.old pad.now) }
     ensures sink_sure { K.is_steady sink.old ≡ true → result.code ≢ 5 }
     ensures shelf_sure { H.is_steady shelf.old ≡ true → result.code ≢ 6 }
 {

@@ -94,7 +94,7 @@ where
     ensures source_fault { result.code ≡ 4 → HasRisen (S.failures source.old) (S.failures source.new) }
     ensures sink_fault { result.code ≡ 5 → HasRisen (K.failures sink.old) (K.failures sink.new) }
     ensures shelf_fault { result.code ≡ 6 → HasRisen (H.failures shelf.old) (H.failures shelf.new)
-        ⊎ (FailsBy H.D.told H.D.failures (H.told shelf.old) ⊎ ((id : Text) × FailsMoving H.D.told H.D.failures (H.told shelf.old id))) }
+        ⊎ (FailsBy H.D.told H.D.failures (H.told shelf.old) ⊎ ((id : Text) × IsImport (map string_bytes words.now) id × FailsMoving H.D.told H.D.failures (H.told shelf.old id))) }
 
     // A device that never fails ends nothing. Where none fails, the words are told wrong, the script is played as far as it
     // goes, the files are judged, or the schedule is made, unless memory runs out.
