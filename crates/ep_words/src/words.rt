@@ -85,20 +85,26 @@ fn id_of(alloc: Global, text: &str) -> Result<PadId, WordsBad>
     Ok(pad)
 }
 
+#[tactic(auto, using(crate::proofs::Pads::moved, crate::proofs::Pads::not_moved))]
 fn export<'a>(alloc: Global, dir: &'a str, pad: &str) -> Result<Command<'a>, WordsBad>
     ensures exact { MatchResult result (λ c. moved_line export dir.entry.now (units_of pad.now) ≡ Some (line_of c)) (λ e. e ≡ WordsBad.Usage → moved_line export dir.entry.now (units_of pad.now) ≡ None) }
     ensures form { IfOk result HasItsForm }
 {
-    let pad = id_of(alloc, pad)?;
-    Ok(Command::Export { dir, pad })
+    match id_of(alloc, pad) {
+        Ok(pad) => Ok(Command::Export { dir, pad }),
+        Err(why) => Err(why),
+    }
 }
 
+#[tactic(auto, using(crate::proofs::Pads::moved, crate::proofs::Pads::not_moved))]
 fn import<'a>(alloc: Global, dir: &'a str, pad: &str) -> Result<Command<'a>, WordsBad>
     ensures exact { MatchResult result (λ c. moved_line import dir.entry.now (units_of pad.now) ≡ Some (line_of c)) (λ e. e ≡ WordsBad.Usage → moved_line import dir.entry.now (units_of pad.now) ≡ None) }
     ensures form { IfOk result HasItsForm }
 {
-    let pad = id_of(alloc, pad)?;
-    Ok(Command::Import { dir, pad })
+    match id_of(alloc, pad) {
+        Ok(pad) => Ok(Command::Import { dir, pad }),
+        Err(why) => Err(why),
+    }
 }
 
 fn command_of<'a>(alloc: Global, parts: Parts<'a>) -> Result<Command<'a>, WordsBad>
