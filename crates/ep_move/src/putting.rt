@@ -49,7 +49,11 @@ fn not_put(why: PutBad) -> NotPut {
 }
 
 /// Puts a history into the file of a disk: all of it, or nothing.
-pub fn put_into<D: Disk>(alloc: Global, disk: D, history: &History) -> Result<D, Refused<D, NotPut>> {
+pub fn put_into<D: Disk>(
+    alloc: Global,
+    disk: D,
+    history: &History,
+) -> Result<D, Refused<D, NotPut>> {
     let journal = journal_on(alloc, disk)?;
     match put(alloc, journal, &history.revs, history.public) {
         Ok(disk) => Ok(disk),

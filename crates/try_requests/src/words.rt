@@ -58,12 +58,8 @@ fn is_command(command: &Command<'_>, name: &str, texts: &[&str], numbers: &[u64]
             clients,
             edits,
         } => name == "make" && numbers == [*number, *clients, *edits].as_slice(),
-        Command::Export { dir, pad } => {
-            name == "export" && is_moved(dir, pad, texts)
-        }
-        Command::Import { dir, pad } => {
-            name == "import" && is_moved(dir, pad, texts)
-        }
+        Command::Export { dir, pad } => { name == "export" && is_moved(dir, pad, texts) }
+        Command::Import { dir, pad } => { name == "import" && is_moved(dir, pad, texts) }
     }
 }
 
