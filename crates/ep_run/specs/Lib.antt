@@ -6,4 +6,5 @@ pub mod Serving
 pub mod Writing
 pub mod Judged
 pub mod Making
+pub mod Moving
 pub mod Run

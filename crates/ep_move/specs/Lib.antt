@@ -1,0 +1,5 @@
+pub mod Text
+pub mod Lines
+pub mod Told
+pub mod Moving
+pub mod Stopped

@@ -1,0 +1,125 @@
+-- How moving a pad ends.
+use Rattle.std.specs.Prelude.{◌≡◌, ◌⊎◌, ℕ, ◌-◌, ◌<◌, ◌≤◌, Bool, true, false, List, [], length, Contains, Option, Some, None, Ok, Err}
+use Rattle.ep_units.specs.Text.{Text}
+use Rattle.ep_outside.specs.Disk.{Contents}
+use Rattle.ep_outside.specs.Outside.{IsWhole, Takes, TakesPart}
+use Rattle.ep_outside.specs.Shelf.{Holds}
+use Rattle.ep_outside.specs.declared.shelf.ShelfBad.{ShelfBad}
+use Rattle.ep_outside.specs.declared.shelf.ShelfBad.TheVariants as shelf_bad
+use Rattle.ep_history.specs.History.{newline}
+use Rattle.ep_journal.specs.File.{is_foreign, records_of}
+use Rattle.ep_import.specs.Imported.{Imports, Said}
+use Rattle.ep_import.specs.declared.bad.ImportBad.{ImportBad}
+use Rattle.ep_import.specs.declared.bad.ImportBad.TheVariants as bad
+use Rattle.ep_put.specs.Putting.{first_long, history_records}
+use Rattle.ep_put.specs.Whole.{full_with}
+use Rattle.ep_verify.specs.Files.{IsFile}
+use Rattle.ep_move.specs.Lines.{imported, refusal}
+use Rattle.ep_move.specs.Text.{IsCut, most_read}
+use Rattle.ep_move.specs.Told.{IsWritten}
+use Rattle.ep_move.specs.declared.file.Unread.{Unread}
+use Rattle.ep_move.specs.declared.file.Unread.TheVariants as unread
+use Rattle.ep_move.specs.declared.lines.Reason.{Reason}
+use Rattle.ep_move.specs.declared.lines.Reason.TheVariants as reason
+use Rattle.ep_move.specs.declared.moved.Moved.{Moved}
+use Rattle.ep_move.specs.declared.moved.Moved.TheVariants as moved
+
+-- what a shelf's refusal is of a file
+abbrev pub unread_by : ShelfBad → Unread
+unread_by shelf_bad.Failed = unread.Fault
+unread_by shelf_bad.NoMemory = unread.NoMemory
+
+-- a disk failed that tells what was told of the pad
+abbrev pub FailsUnwritten : {D : Type 0} → (D → Option Contents) → (D → ℕ) → Option Contents → Type 0
+FailsUnwritten {D} disk_told failures told = (d : D) × Holds told (disk_told d) × (1 ≤ failures d)
+
+-- a disk that told what was told of the pad has failed since
+abbrev pub FailsBy : {D : Type 0} → (D → Option Contents) → (D → ℕ) → Option Contents → Type 0
+FailsBy {D} disk_told failures told = (first : D) × (last : D) × Holds told (disk_told first) × (1 ≤ failures last)
+
+-- ---- a pad's history goes out
+
+-- where names are told, this one isn't among them
+abbrev pub IsUnnamed : Option (List (List ℕ)) → Text → Type 0
+IsUnnamed None id = Unit {0}
+IsUnnamed (Some ns) id = Contains ns id → ⊥
+
+-- what is written of a shelf's pad, and whether it is a refusal: a shelf that has no file of that name has no such pad
+pub data IsSaid (names : Option (List (List ℕ))) (told : Option Contents) (id : Text) : Bool → List ℕ → Type 0 where
+  NoFile : IsUnnamed names id → IsSaid names told id true (refusal id reason.Gone)
+  OfFile : (file : List ℕ) (refuses : Bool) (out : List ℕ) → IsFile told file → IsWritten id file refuses out → IsSaid names told id refuses out
+
+-- whether a name is among those that are told
+abbrev pub IsNamed : Option (List (List ℕ)) → Text → Bool → Type 0
+IsNamed None id is = Unit {0}
+IsNamed (Some ns) id true = Contains ns id
+IsNamed (Some ns) id false = Contains ns id → ⊥
+
+-- the file of a name was read, or the name isn't among those that are told
+abbrev pub IsFound : Option (List (List ℕ)) → Option Contents → Text → Option (List ℕ) → Type 0
+IsFound names told id None = IsUnnamed names id
+IsFound names told id (Some bytes) = IsFile told bytes
+
+-- so a line was written, or a beginning of it
+abbrev pub WritesLine : Bool → List ℕ → Option (List ℕ) → Option (List ℕ) → Moved → Type 0
+WritesLine refuses out held now moved.All = (refuses ≡ false) × Takes held now out
+WritesLine refuses out held now moved.Refused = (refuses ≡ true) × Takes held now out
+WritesLine refuses out held now moved.SinkFault = TakesPart held now out
+WritesLine refuses out held now why = ⊥
+
+-- so it went out, or a beginning of it, or nothing
+abbrev pub GoesOut : Option (List (List ℕ)) → Option Contents → Text → Option (List ℕ) → Option (List ℕ) → Moved → Type 0
+GoesOut names told id held now moved.All = (out : List ℕ) × IsSaid names told id false out × Takes held now out
+GoesOut names told id held now moved.Refused = (out : List ℕ) × IsSaid names told id true out × Takes held now out
+GoesOut names told id held now moved.SinkFault = (refuses : Bool) × (out : List ℕ) × IsSaid names told id refuses out × TakesPart held now out
+GoesOut names told id held now moved.SourceFault = ⊥
+GoesOut names told id held now why = now ≡ held
+
+-- ---- a history comes in
+
+-- why bytes are no history
+abbrev pub reason_of : ImportBad → Option Reason
+reason_of (bad.TooBig n) = Some (reason.TooBig n)
+reason_of bad.NotJson = Some reason.NotJson
+reason_of (bad.Shape place) = Some (reason.Shape place)
+reason_of (bad.Revision n) = Some (reason.Revision n)
+reason_of bad.Replay = Some reason.Replay
+reason_of bad.NoMemory = None
+
+-- what a source that had these bytes, and has these left, says of a pad of this id
+pub record Says (id : Text) (old new : Option (List ℕ)) (said : Said) : Type 0 where
+  pub text : List ℕ
+  pub whole : IsWhole old new text
+  pub imports : Imports id text (Ok said)
+
+-- why it says nothing: more was read than a text may have, or the text is refused
+pub data SaysNone (id : Text) (old new : Option (List ℕ)) : Reason → Type 0 where
+  Long : IsCut old new → SaysNone id old new (reason.TooBig most_read)
+  NoText : (bytes : List ℕ) → IsWhole old new bytes → SaysNone id old new reason.NotJson
+  NoHistory : (text : List ℕ) (bad : ImportBad) (why : Reason) → IsWhole old new text → Imports id text (Err bad) → reason_of bad ≡ Some why → SaysNone id old new why
+
+-- so many bytes a file may have
+abbrev pub most_file : ℕ
+most_file = 268435456
+
+-- why a file, where it is told, doesn't take a history
+abbrev pub IsUntaken : Option Contents → Said → Reason → Type 0
+IsUntaken told said reason.Exists = (c : Contents) → told ≡ Some c → records_of c.seen ≡ [] → ⊥
+IsUntaken told said (reason.TooLong n) = first_long newline said.revs ≡ Some n
+IsUntaken told said (reason.Full n) = full_with most_file (history_records said.revs said.public) ≡ Some n
+IsUntaken told said reason.Foreign = (c : Contents) → told ≡ Some c → is_foreign c.seen ≡ true
+IsUntaken told said why = ⊥
+
+-- why nothing came in: the source says no history, or the file takes none
+pub data IsRefused (id : Text) (old new : Option (List ℕ)) (told : Option Contents) (why : Reason) : Type 0 where
+  ByText : SaysNone id old new why → IsRefused id old new told why
+  ByFile : (said : Said) → Says id old new said → IsUntaken told said why → IsRefused id old new told why
+
+-- so a history came in, or why not was written, or a beginning of either line, or nothing
+abbrev pub ComesIn : Text → Option (List ℕ) → Option (List ℕ) → Option Contents → Option (List ℕ) → Option (List ℕ) → Moved → Type 0
+ComesIn id old new told held now moved.All = (said : Said) × Says id old new said × Takes held now (imported (length said.revs - 1))
+ComesIn id old new told held now moved.Refused = (why : Reason) × IsRefused id old new told why × Takes held now (refusal id why)
+ComesIn id old new told held now moved.SinkFault =
+    ((said : Said) × Says id old new said × TakesPart held now (imported (length said.revs - 1)))
+    ⊎ ((why : Reason) × IsRefused id old new told why × TakesPart held now (refusal id why))
+ComesIn id old new told held now why = now ≡ held
