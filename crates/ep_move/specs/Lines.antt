@@ -31,3 +31,7 @@ refusal id why = line (codes "refused " ++ reason_text id why)
 -- what is written of a history that was put: the number of its last revision
 abbrev pub imported : ℕ → List ℕ
 imported head = line (codes "imported head " ++ decimal head)
+
+-- how the program is used
+abbrev pub usage : List ℕ
+usage = codes "usage: padd play [NAME] | serve PADS API DIR KEY | write ADDR PAD TOKEN | verify DIR WORKERS | make NUMBER CLIENTS EDITS | export DIR PAD | import DIR PAD\n"

@@ -1,13 +1,11 @@
 -- How moving a pad ends.
-use Rattle.std.specs.Prelude.{◌≡◌, ◌⊎◌, ℕ, ◌-◌, ◌<◌, ◌≤◌, Bool, true, false, List, [], length, Contains, Option, Some, None, Ok, Err}
+use Rattle.std.specs.Prelude.{◌≡◌, ◌⊎◌, ℕ, ◌-◌, ◌≤◌, Bool, true, false, List, [], length, Contains, IsUtf8, Option, Some, None, Ok, Err}
 use Rattle.ep_units.specs.Text.{Text}
 use Rattle.ep_outside.specs.Disk.{Contents}
-use Rattle.ep_outside.specs.Outside.{IsWhole, Takes, TakesPart}
+use Rattle.ep_outside.specs.Outside.{HasRisen, IsWhole, Takes, TakesPart}
 use Rattle.ep_outside.specs.Shelf.{Holds}
-use Rattle.ep_outside.specs.declared.shelf.ShelfBad.{ShelfBad}
-use Rattle.ep_outside.specs.declared.shelf.ShelfBad.TheVariants as shelf_bad
 use Rattle.ep_history.specs.History.{newline}
-use Rattle.ep_journal.specs.File.{is_foreign, records_of}
+use Rattle.ep_journal.specs.File.{is_foreign, stands_for}
 use Rattle.ep_import.specs.Imported.{Imports, Said}
 use Rattle.ep_import.specs.declared.bad.ImportBad.{ImportBad}
 use Rattle.ep_import.specs.declared.bad.ImportBad.TheVariants as bad
@@ -17,21 +15,24 @@ use Rattle.ep_verify.specs.Files.{IsFile}
 use Rattle.ep_move.specs.Lines.{imported, refusal}
 use Rattle.ep_move.specs.Text.{IsCut, most_read}
 use Rattle.ep_move.specs.Told.{IsWritten}
-use Rattle.ep_move.specs.declared.file.Unread.{Unread}
-use Rattle.ep_move.specs.declared.file.Unread.TheVariants as unread
 use Rattle.ep_move.specs.declared.lines.Reason.{Reason}
 use Rattle.ep_move.specs.declared.lines.Reason.TheVariants as reason
 use Rattle.ep_move.specs.declared.moved.Moved.{Moved}
 use Rattle.ep_move.specs.declared.moved.Moved.TheVariants as moved
 
--- what a shelf's refusal is of a file
-abbrev pub unread_by : ShelfBad → Unread
-unread_by shelf_bad.Failed = unread.Fault
-unread_by shelf_bad.NoMemory = unread.NoMemory
+-- the status of each end
+abbrev pub code_of : Moved → ℕ
+code_of moved.All = 0
+code_of moved.SourceFault = 4
+code_of moved.SinkFault = 5
+code_of moved.DiskFault = 6
+code_of moved.NoMemory = 7
+code_of moved.Refused = 13
 
--- a disk failed that tells what was told of the pad
-abbrev pub FailsUnwritten : {D : Type 0} → (D → Option Contents) → (D → ℕ) → Option Contents → Type 0
-FailsUnwritten {D} disk_told failures told = (d : D) × Holds told (disk_told d) × (1 ≤ failures d)
+-- a device has failed since: its count rose, and it never told that it doesn't fail
+pub record Fails (steady : Bool) (before now : ℕ) : Type 0 where
+  pub risen : HasRisen before now
+  pub unsure : steady ≡ true → ⊥
 
 -- a disk that told what was told of the pad has failed since
 abbrev pub FailsBy : {D : Type 0} → (D → Option Contents) → (D → ℕ) → Option Contents → Type 0
@@ -44,21 +45,21 @@ abbrev pub IsUnnamed : Option (List (List ℕ)) → Text → Type 0
 IsUnnamed None id = Unit {0}
 IsUnnamed (Some ns) id = Contains ns id → ⊥
 
--- what is written of a shelf's pad, and whether it is a refusal: a shelf that has no file of that name has no such pad
-pub data IsSaid (names : Option (List (List ℕ))) (told : Option Contents) (id : Text) : Bool → List ℕ → Type 0 where
-  NoFile : IsUnnamed names id → IsSaid names told id true (refusal id reason.Gone)
-  OfFile : (file : List ℕ) (refuses : Bool) (out : List ℕ) → IsFile told file → IsWritten id file refuses out → IsSaid names told id refuses out
-
 -- whether a name is among those that are told
 abbrev pub IsNamed : Option (List (List ℕ)) → Text → Bool → Type 0
-IsNamed None id is = Unit {0}
+IsNamed names id false = IsUnnamed names id
+IsNamed None id true = Unit {0}
 IsNamed (Some ns) id true = Contains ns id
-IsNamed (Some ns) id false = Contains ns id → ⊥
 
 -- the file of a name was read, or the name isn't among those that are told
 abbrev pub IsFound : Option (List (List ℕ)) → Option Contents → Text → Option (List ℕ) → Type 0
 IsFound names told id None = IsUnnamed names id
 IsFound names told id (Some bytes) = IsFile told bytes
+
+-- what is written of a shelf's pad, and whether it is a refusal: a shelf that has no file of that name has no such pad
+pub data IsSaid (names : Option (List (List ℕ))) (told : Option Contents) (id : Text) : Bool → List ℕ → Type 0 where
+  NoFile : IsUnnamed names id → IsSaid names told id true (refusal id reason.Gone)
+  OfFile : (file : List ℕ) (refuses : Bool) (out : List ℕ) → IsFile told file → IsWritten id file refuses out → IsSaid names told id refuses out
 
 -- so a line was written, or a beginning of it
 abbrev pub WritesLine : Bool → List ℕ → Option (List ℕ) → Option (List ℕ) → Moved → Type 0
@@ -92,11 +93,15 @@ pub record Says (id : Text) (old new : Option (List ℕ)) (said : Said) : Type 0
   pub whole : IsWhole old new text
   pub imports : Imports id text (Ok said)
 
--- why it says nothing: more was read than a text may have, or the text is refused
+-- bytes say nothing: they are no UTF-8, or the text is refused
+pub data IsNone (id : Text) (bytes : List ℕ) : Reason → Type 0 where
+  NoText : (IsUtf8 bytes → ⊥) → IsNone id bytes reason.NotJson
+  NoHistory : (why : ImportBad) (r : Reason) → Imports id bytes (Err why) → reason_of why ≡ Some r → IsNone id bytes r
+
+-- so does a source: more was read than a text may have, or what was read says nothing
 pub data SaysNone (id : Text) (old new : Option (List ℕ)) : Reason → Type 0 where
   Long : IsCut old new → SaysNone id old new (reason.TooBig most_read)
-  NoText : (bytes : List ℕ) → IsWhole old new bytes → SaysNone id old new reason.NotJson
-  NoHistory : (text : List ℕ) (bad : ImportBad) (why : Reason) → IsWhole old new text → Imports id text (Err bad) → reason_of bad ≡ Some why → SaysNone id old new why
+  Short : (bytes : List ℕ) (why : Reason) → IsWhole old new bytes → IsNone id bytes why → SaysNone id old new why
 
 -- so many bytes a file may have
 abbrev pub most_file : ℕ
@@ -104,7 +109,7 @@ most_file = 268435456
 
 -- why a file, where it is told, doesn't take a history
 abbrev pub IsUntaken : Option Contents → Said → Reason → Type 0
-IsUntaken told said reason.Exists = (c : Contents) → told ≡ Some c → records_of c.seen ≡ [] → ⊥
+IsUntaken told said reason.Exists = (c : Contents) → told ≡ Some c → stands_for c.seen ≡ Some [] → ⊥
 IsUntaken told said (reason.TooLong n) = first_long newline said.revs ≡ Some n
 IsUntaken told said (reason.Full n) = full_with most_file (history_records said.revs said.public) ≡ Some n
 IsUntaken told said reason.Foreign = (c : Contents) → told ≡ Some c → is_foreign c.seen ≡ true

@@ -1,6 +1,6 @@
 //! A history that goes out of its pad's file.
 
-ghost use Rattle.std.specs.Prelude.{◌≡◌, ◌≢◌, ◌⊎◌, ℕ, List, true, false, option_map, IfOk, IfSome, IsErrOf};
+ghost use Rattle.std.specs.Prelude.{◌≡◌, ◌≢◌, ◌⊎◌, ℕ, List, true, false, IfOk, IfSome, IsErrOf};
 ghost use Rattle.std.specs.String.{string_bytes};
 ghost use Rattle.ep_outside.specs.Outside.{HasCause, HasRisen};
 ghost use Rattle.ep_history.specs.Pad.{PadState};
@@ -8,7 +8,7 @@ ghost use Rattle.ep_past.specs.Revisions.{AreRevisions};
 ghost use Rattle.ep_reread.specs.Told.{IsReread};
 ghost use Rattle.ep_verify.specs.Verdicts.{Tells};
 ghost use Rattle.ep_move.specs.Lines.{line as with_end, refusal};
-ghost use Rattle.ep_move.specs.Moving.{FailsUnwritten, GoesOut, IsSaid, WritesLine};
+ghost use Rattle.ep_move.specs.Moving.{FailsBy, GoesOut, IsSaid, WritesLine};
 ghost use Rattle.ep_move.specs.Told.{HasPast, IsWritten};
 
 use crate::file::{Unread, file_of};
@@ -93,7 +93,7 @@ fn line_in(alloc: Global, pad: &PadId, bytes: &[u8]) -> Result<Line, NoMemory>
 fn line_from<H: Shelf>(alloc: Global, shelf: &mut H, pad: &PadId) -> Result<Line, Unread>
     ensures said { IfOk result (λ line. IsSaid (H.names shelf.old) (H.told shelf.old pad.now) pad.now line.refuses (string_bytes line.text)) }
     ensures names { H.names shelf.new ≡ H.names shelf.old }
-    ensures fault { IsErrOf result Unread.Fault → HasRisen (H.failures shelf.old) (H.failures shelf.new) ⊎ FailsUnwritten H.D.told H.D.failures (H.told shelf.old pad.now) }
+    ensures fault { IsErrOf result Unread.Fault → HasRisen (H.failures shelf.old) (H.failures shelf.new) ⊎ FailsBy H.D.told H.D.failures (H.told shelf.old pad.now) }
     ensures sure { H.is_steady shelf.old ≡ true → IsErrOf result Unread.Fault → ⊥ }
 {
     let line = match file_of(alloc, shelf, pad)? {
@@ -106,8 +106,7 @@ fn line_from<H: Shelf>(alloc: Global, shelf: &mut H, pad: &PadId) -> Result<Line
 /// Writes a line, and answers how moving the pad ended.
 fn write_line<K: Sink>(sink: &mut K, line: &Line) -> Moved
     ensures writes { WritesLine line.now.refuses (string_bytes line.now.text) (K.held sink.old) (K.held sink.new) result }
-    ensures cause { result ≡ Moved.SinkFault → HasRisen (K.failures sink.old) (K.failures sink.new) }
-    ensures sure { K.is_steady sink.old ≡ true → result ≢ Moved.SinkFault }
+    ensures cause { HasCause (K.failures sink.old) (K.failures sink.new) (K.is_steady sink.old) (K.is_steady sink.new) (result ≡ Moved.SinkFault) }
 {
     match sink.write(line.text.as_bytes()) {
         Ok(()) if line.refuses => Moved::Refused,
@@ -125,9 +124,8 @@ pub fn export_to<H: Shelf, K: Sink>(
 ) -> Moved
     ensures goes_out { GoesOut (H.names shelf.old) (H.told shelf.old pad.now) pad.now (K.held sink.old) (K.held sink.new) result }
     ensures names { H.names shelf.new ≡ H.names shelf.old }
-    ensures sink_fault { result ≡ Moved.SinkFault → HasRisen (K.failures sink.old) (K.failures sink.new) }
-    ensures disk_fault { result ≡ Moved.DiskFault → HasRisen (H.failures shelf.old) (H.failures shelf.new) ⊎ FailsUnwritten H.D.told H.D.failures (H.told shelf.old pad.now) }
-    ensures sink_sure { K.is_steady sink.old ≡ true → result ≢ Moved.SinkFault }
+    ensures sink { HasCause (K.failures sink.old) (K.failures sink.new) (K.is_steady sink.old) (K.is_steady sink.new) (result ≡ Moved.SinkFault) }
+    ensures disk_fault { result ≡ Moved.DiskFault → HasRisen (H.failures shelf.old) (H.failures shelf.new) ⊎ FailsBy H.D.told H.D.failures (H.told shelf.old pad.now) }
     ensures disk_sure { H.is_steady shelf.old ≡ true → result ≢ Moved.DiskFault }
 {
     match line_from(alloc, shelf, pad) {

@@ -3,7 +3,7 @@
 ghost use Rattle.std.specs.Prelude.{◌≡◌, ◌⊎◌, ◌≤◌, ◌↔◌, true, option_map, Contains, IfOk, IsErrOf, IsTrue};
 ghost use Rattle.ep_outside.specs.Outside.{HasCause, HasRisen};
 ghost use Rattle.ep_verify.specs.Files.{IsFile};
-ghost use Rattle.ep_move.specs.Moving.{FailsUnwritten, IsFound, IsNamed};
+ghost use Rattle.ep_move.specs.Moving.{FailsBy, IsFound, IsNamed};
 
 use ep_outside::{Disk, Failed, Shelf, ShelfBad};
 use ep_units::{NoMemory, PadId};
@@ -96,7 +96,7 @@ fn read_file<H: Shelf>(alloc: Global, shelf: &mut H, pad: &PadId) -> Result<Vec<
     requires { IsNamed (H.names shelf.old) pad.now true }
     ensures file { IfOk result (λ bytes. IsFile (H.told shelf.old pad.now) bytes.items) }
     ensures names { H.names shelf.new ≡ H.names shelf.old }
-    ensures fault { IsErrOf result Unread.Fault → HasRisen (H.failures shelf.old) (H.failures shelf.new) ⊎ FailsUnwritten H.D.told H.D.failures (H.told shelf.old pad.now) }
+    ensures fault { IsErrOf result Unread.Fault → HasRisen (H.failures shelf.old) (H.failures shelf.new) ⊎ FailsBy H.D.told H.D.failures (H.told shelf.old pad.now) }
     ensures later { H.failures shelf.old ≤ H.failures shelf.new }
     ensures sure { H.is_steady shelf.old ≡ true → IsErrOf result Unread.Fault → ⊥ }
 {
@@ -112,7 +112,7 @@ pub fn file_of<H: Shelf>(
 ) -> Result<Option<Vec<u8>>, Unread>
     ensures found { IfOk result (λ found. IsFound (H.names shelf.old) (H.told shelf.old pad.now) pad.now (option_map (λ bytes. bytes.items) found)) }
     ensures names { H.names shelf.new ≡ H.names shelf.old }
-    ensures fault { IsErrOf result Unread.Fault → HasRisen (H.failures shelf.old) (H.failures shelf.new) ⊎ FailsUnwritten H.D.told H.D.failures (H.told shelf.old pad.now) }
+    ensures fault { IsErrOf result Unread.Fault → HasRisen (H.failures shelf.old) (H.failures shelf.new) ⊎ FailsBy H.D.told H.D.failures (H.told shelf.old pad.now) }
     ensures sure { H.is_steady shelf.old ≡ true → IsErrOf result Unread.Fault → ⊥ }
 {
     if !is_named(shelf, pad)? {

@@ -9,9 +9,14 @@ mod file;
 mod importing;
 mod lines;
 mod moved;
+mod moving;
 mod putting;
+mod stop;
 mod text;
+mod usage;
 
 pub use exporting::export_to;
 pub use importing::{Imported, import_into, import_to};
 pub use moved::Moved;
+pub use moving::move_pad;
+pub use usage::say_usage;

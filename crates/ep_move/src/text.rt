@@ -1,12 +1,15 @@
 //! A text that comes in, up to its limit.
 
-ghost use Rattle.std.specs.Prelude.{◌≡◌, ◌≤◌, ◌<◌, ◌+◌, length, IfOk, IsErrOf, min, true};
-ghost use Rattle.ep_outside.specs.Outside.{Gives, HasCause, IsWhole};
-ghost use Rattle.ep_move.specs.Text.{IsCut, most_read};
+ghost use Rattle.std.specs.Prelude.{◌<◌, length, IfErr, IfOk, IsErrOf};
+ghost use Rattle.ep_outside.specs.Outside.{HasCause, IsWhole};
+ghost use Rattle.ep_move.specs.Stopped.{StopsBy, StopsLong};
+ghost use Rattle.ep_move.specs.Text.{most_read};
 
+use crate::lines::Reason;
+use crate::stop::Stop;
 use ep_import::MOST_BYTES;
 use ep_outside::{Got, Source};
-use std::alloc::{AllocError, Global};
+use std::alloc::Global;
 
 /// So many bytes are read at once.
 const ROOM: usize = 4096;
@@ -14,32 +17,12 @@ const ROOM: usize = 4096;
 /// So many bytes are read at most: one more than a text may have.
 const MOST_READ: usize = MOST_BYTES as usize + 1;
 
-/// Why the bytes of a source are no text.
-#[derive(Clone, Copy, Debug, PartialEq, Eq)]
-pub enum TextBad {
-    /// One more was read than a text may have.
-    TooBig,
-    Fault,
-    NoMemory,
-}
-
-impl From<AllocError> for TextBad {
-    ghost use Rattle.std.specs.Prelude.{◌≡◌};
-    ghost use Rattle.ep_move.specs.declared.text.TextBad.TheVariants as bad;
-
-    ghost from_gives = { λ _ e. e ≡ bad.NoMemory };
-
-    fn from(_error: AllocError) -> TextBad {
-        TextBad::NoMemory
-    }
-}
-
 /// All bytes of a source, which are fewer than are read at most.
-pub fn read_text<S: Source>(alloc: Global, source: &mut S) -> Result<Vec<u8>, TextBad>
+pub fn read_text<S: Source>(alloc: Global, source: &mut S) -> Result<Vec<u8>, Stop>
     ensures whole { IfOk result (λ text. IsWhole (S.left source.old) (S.left source.new) text.items) }
     ensures short { IfOk result (λ text. length text.items < most_read) }
-    ensures long { IsErrOf result TextBad.TooBig → IsCut (S.left source.old) (S.left source.new) }
-    ensures cause { HasCause (S.failures source.old) (S.failures source.new) (S.is_steady source.old) (S.is_steady source.new) (IsErrOf result TextBad.Fault) }
+    ensures stops { IfErr result (StopsBy (StopsLong (S.left source.old) (S.left source.new)) ⊥) }
+    ensures cause { HasCause (S.failures source.old) (S.failures source.new) (S.is_steady source.old) (S.is_steady source.new) (IsErrOf result Stop.SourceFault) }
 {
     let mut text = Vec::new(alloc);
     let mut room = [0u8; ROOM];
@@ -48,8 +31,8 @@ pub fn read_text<S: Source>(alloc: Global, source: &mut S) -> Result<Vec<u8>, Te
         match source.read(&mut room[..want]) {
             Got::Bytes(n) => text.extend_from_slice(&room[..n])?,
             Got::End => return Ok(text),
-            Got::Failed => return Err(TextBad::Fault),
+            Got::Failed => return Err(Stop::SourceFault),
         }
     }
-    Err(TextBad::TooBig)
+    Err(Stop::Refused(Reason::TooBig(MOST_BYTES + 1)))
 }

@@ -18,8 +18,6 @@ SpeaksBy (Some (line.serve pads api dir key)) s =
     (s.serves ≡ true) × (s.pads.now ≡ pads) × (s.api.now ≡ api) × (s.folder.now ≡ dir) × (s.key.now ≡ key) × NeitherCallsNorJudges s
 SpeaksBy (Some (line.write addr pad token)) s = ServesNothing s × (s.server.now ≡ addr) × (s.judged.now ≡ [])
 SpeaksBy (Some (line.verify dir workers)) s = ServesNothing s × (s.server.now ≡ []) × (s.judged.now ≡ dir)
-SpeaksBy (Some (line.export dir id)) s = ServesNothing s × (s.server.now ≡ []) × (s.judged.now ≡ dir)
-SpeaksBy (Some (line.import dir id)) s = ServesNothing s × (s.server.now ≡ []) × (s.judged.now ≡ dir)
 SpeaksBy (Some (line.play id)) s = ServesNothing s × NeitherCallsNorJudges s
 SpeaksBy (Some (line.make number clients edits)) s = ServesNothing s × NeitherCallsNorJudges s
 SpeaksBy None s = ServesNothing s × NeitherCallsNorJudges s

@@ -22,7 +22,7 @@ pub struct Spoken<'a> {
     pub key: &'a str,
     /// The address of a server.
     pub server: &'a str,
-    /// The folder whose files are judged, or of which one is moved.
+    /// The folder that is judged.
     pub judged: &'a str,
 }
 
@@ -61,9 +61,7 @@ pub fn spoken_by(alloc: Global, words: &[String]) -> Result<Spoken<'_>, NoMemory
             server: addr,
             ..NOTHING
         }),
-        Ok(
-            Command::Verify { dir, .. } | Command::Export { dir, .. } | Command::Import { dir, .. },
-        ) => Ok(Spoken {
+        Ok(Command::Verify { dir, .. }) => Ok(Spoken {
             judged: dir,
             ..NOTHING
         }),

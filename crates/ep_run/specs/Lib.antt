@@ -6,5 +6,4 @@ pub mod Serving
 pub mod Writing
 pub mod Judged
 pub mod Making
-pub mod Moving
 pub mod Run

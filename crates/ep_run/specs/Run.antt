@@ -32,14 +32,6 @@ IsVerify words = (dir : List ℕ) × (workers : ℕ) × line_in words ≡ Some (
 abbrev pub IsMake : List (List ℕ) → ℕ → ℕ → ℕ → Type 0
 IsMake words number clients edits = line_in words ≡ Some (line.make number clients edits)
 
--- the words ask for the history of a folder's pad
-abbrev pub IsExport : List (List ℕ) → Text → Type 0
-IsExport words id = (dir : List ℕ) × line_in words ≡ Some (line.export dir id)
-
--- the words ask to put a history into a folder's pad
-abbrev pub IsImport : List (List ℕ) → Text → Type 0
-IsImport words id = (dir : List ℕ) × line_in words ≡ Some (line.import dir id)
-
 -- the command reads the lines of the source
 abbrev pub ReadsLines : Option Line → Type 0
 ReadsLines None = ⊥
@@ -48,8 +40,6 @@ ReadsLines (Some (line.serve pads api dir key)) = ⊥
 ReadsLines (Some (line.write addr pad token)) = Unit {0}
 ReadsLines (Some (line.verify dir workers)) = ⊥
 ReadsLines (Some (line.make number clients edits)) = ⊥
-ReadsLines (Some (line.export dir id)) = ⊥
-ReadsLines (Some (line.import dir id)) = Unit {0}
 
 -- the statuses that words may end with
 abbrev pub statuses : Option Line → List ℕ
@@ -59,15 +49,13 @@ statuses (Some (line.serve pads api dir key)) = 0 ∷ 5 ∷ 7 ∷ 8 ∷ 9 ∷ []
 statuses (Some (line.write addr pad token)) = 0 ∷ 3 ∷ 4 ∷ 5 ∷ 7 ∷ 8 ∷ 10 ∷ 11 ∷ []
 statuses (Some (line.verify dir workers)) = 0 ∷ 1 ∷ 5 ∷ 6 ∷ 7 ∷ []
 statuses (Some (line.make number clients edits)) = 0 ∷ 5 ∷ 7 ∷ []
-statuses (Some (line.export dir id)) = 0 ∷ 5 ∷ 6 ∷ 7 ∷ 13 ∷ []
-statuses (Some (line.import dir id)) = 0 ∷ 4 ∷ 5 ∷ 6 ∷ 7 ∷ 13 ∷ []
 
 -- the words are no line of the program
 abbrev pub IsUsage : List (List ℕ) → Type 0
 IsUsage words = line_in words ≡ None
 
 abbrev pub usage : List ℕ
-usage = codes "usage: padd play [NAME] | serve PADS API DIR KEY | write ADDR PAD TOKEN | verify DIR WORKERS | make NUMBER CLIENTS EDITS | export DIR PAD | import DIR PAD\n"
+usage = codes "usage: padd play [NAME] | serve PADS API DIR KEY | write ADDR PAD TOKEN | verify DIR WORKERS | make NUMBER CLIENTS EDITS\n"
 
 -- ---- what is written
 

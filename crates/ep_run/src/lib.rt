@@ -7,7 +7,6 @@
 mod judge;
 mod laws;
 mod making;
-mod moving;
 mod reason;
 mod say;
 mod script;
@@ -20,7 +19,6 @@ mod writing;
 pub use judge::verify_to;
 pub use laws::one_transcript;
 pub use making::make_to;
-pub use moving::{export_pad, import_pad};
 pub use script::{Played, play};
 pub use serving::serve_callers;
 pub use status::Status;

@@ -7,15 +7,12 @@ ghost use Rattle.ep_units.specs.Text.{Text};
 ghost use Rattle.ep_words.specs.Lines.{line_in};
 ghost use Rattle.ep_run.specs.Judged.{FailsBy, Judges};
 ghost use Rattle.ep_run.specs.Making.{MakesLines};
-ghost use Rattle.ep_move.specs.Moving.{FailsBy as FailsMoving};
-ghost use Rattle.ep_run.specs.Moving.{Exports, ImportsFrom, IsMoved, NamesStay};
-ghost use Rattle.ep_run.specs.Run.{IsEnd, IsExport, IsImport, IsMake, IsPlay, IsServe, IsUsage, IsVerdict, IsVerify, IsWrite, ReadsLines, Writes, WritesPart, statuses, usage};
+ghost use Rattle.ep_run.specs.Run.{IsEnd, IsMake, IsPlay, IsServe, IsUsage, IsVerdict, IsVerify, IsWrite, ReadsLines, Writes, WritesPart, statuses, usage};
 ghost use Rattle.ep_run.specs.Serving.{Serves};
 ghost use Rattle.ep_run.specs.Writing.{WritesPad};
 
 use crate::judge::verify_to;
 use crate::making::make_to;
-use crate::moving::{export_pad, import_pad};
 use crate::say::say;
 use crate::script::play;
 use crate::serving::serve_callers;
@@ -29,7 +26,7 @@ use std::sync::Wait;
 use std::thread::Threads;
 
 const USAGE: &str =
-    "usage: padd play [NAME] | serve PADS API DIR KEY | write ADDR PAD TOKEN | verify DIR WORKERS | make NUMBER CLIENTS EDITS | export DIR PAD | import DIR PAD\n";
+    "usage: padd play [NAME] | serve PADS API DIR KEY | write ADDR PAD TOKEN | verify DIR WORKERS | make NUMBER CLIENTS EDITS\n";
 
 /// Does all that the program does. The host says what is done for a caller of the server. Status 7, want of memory, may
 /// come at any time.
@@ -76,17 +73,11 @@ where
     // Of `verify` the files of the shelf are judged.
     ensures judges { IsVerify (map string_bytes words.now)
         → Judges (H.names shelf.old) (H.told shelf.old) K.held sink.old sink.new result.code }
-    ensures names { NamesStay (line_in (map string_bytes words.now)) (H.names shelf.old) (H.names shelf.new) }
+    ensures names { H.names shelf.new ≡ H.names shelf.old }
 
     // Of `make` the schedule of the number is played, and its five lines written.
     ensures makes { (number clients edits : ℕ) → IsMake (map string_bytes words.now) number clients edits
         → MakesLines K.held number clients edits sink.old sink.new result.code }
-
-    // Of `export` the pad's history is written, and of `import` the source's is put into the pad's file, or it is said why not.
-    ensures exports { (id : Text) → IsExport (map string_bytes words.now) id
-        → Exports (H.names shelf.old) (H.told shelf.old id) id (K.held sink.old) (K.held sink.new) result.code }
-    ensures imports { (id : Text) → IsImport (map string_bytes words.now) id
-        → ImportsFrom id (S.left source.old) (S.left source.new) (H.told shelf.old id) (K.held sink.old) (K.held sink.new) result.code }
 
     // Each status is one that its words may have, and each fault has its cause.
     ensures known { Contains (statuses (line_in (map string_bytes words.now))) result.code }
@@ -94,7 +85,7 @@ where
     ensures source_fault { result.code ≡ 4 → HasRisen (S.failures source.old) (S.failures source.new) }
     ensures sink_fault { result.code ≡ 5 → HasRisen (K.failures sink.old) (K.failures sink.new) }
     ensures shelf_fault { result.code ≡ 6 → HasRisen (H.failures shelf.old) (H.failures shelf.new)
-        ⊎ (FailsBy H.D.told H.D.failures (H.told shelf.old) ⊎ ((id : Text) × IsImport (map string_bytes words.now) id × FailsMoving H.D.told H.D.failures (H.told shelf.old id))) }
+        ⊎ FailsBy H.D.told H.D.failures (H.told shelf.old) }
 
     // A device that never fails ends nothing. Where none fails, the words are told wrong, the script is played as far as it
     // goes, the files are judged, or the schedule is made, unless memory runs out.
@@ -107,10 +98,6 @@ where
         → IsVerdict result.code ⊎ (result.code ≡ 7) }
     ensures make_complete { K.is_steady sink.old ≡ true → (number clients edits : ℕ) → IsMake (map string_bytes words.now) number clients edits
         → (result.code ≡ 0) ⊎ (result.code ≡ 7) }
-    ensures export_complete { H.is_steady shelf.old ≡ true → K.is_steady sink.old ≡ true → (id : Text) → IsExport (map string_bytes words.now) id
-        → IsMoved result.code ⊎ (result.code ≡ 7) }
-    ensures import_complete { S.is_steady source.old ≡ true → K.is_steady sink.old ≡ true → H.is_steady shelf.old ≡ true → (id : Text) → IsImport (map string_bytes words.now) id
-        → IsMoved result.code ⊎ (result.code ≡ 7) }
 {
     match read_words(alloc, words) {
         Ok(Command::Play { pad }) => play(alloc, source, sink, pad).status,
@@ -126,8 +113,6 @@ where
                 edits,
             },
         ) => make_to(alloc, sink, number, clients as u32, edits as u32),
-        Ok(Command::Export { pad, .. }) => export_pad(alloc, shelf, sink, &pad),
-        Ok(Command::Import { pad, .. }) => import_pad(alloc, source, sink, shelf, &pad),
         Err(WordsBad::Usage) => say(sink, USAGE, 2),
         Err(WordsBad::NoMemory) => Status { code: 7 },
     }

@@ -11,9 +11,9 @@ use Rattle.clap.specs.declared.error.kind.ErrorKind.{ErrorKind}
 use Rattle.clap.specs.Simple.{built, entered, names_of, rows_at}
 use Rattle.clap.specs.Walk.{Held, Names, Walk, finished, idle, nothing_held, settled, subcommand_met, value, walk, walked, word_met}
 use Rattle.clap.proofs.OnLiterals.{clap_on_literals}
-use Rattle.ep_words.specs.Forms.{Form, play, serve, write, verify, make, export, import, form_by, form_in, has_dash, is_dash, play_in, serve_in, write_in, verify_in, make_in, moved_in}
+use Rattle.ep_words.specs.Forms.{Form, play, serve, write, verify, make, form_by, form_in, has_dash, is_dash, play_in, serve_in, write_in, verify_in, make_in}
 use Rattle.ep_words.specs.App.{form_met, padd, rows_for}
-use Rattle.ep_words.proofs.Leaves.{Level, at, kinds_differ, or_false, sub, play_level, serve_level, write_level, verify_level, make_level, export_level, import_level}
+use Rattle.ep_words.proofs.Leaves.{Level, at, kinds_differ, or_false, sub, play_level, serve_level, write_level, verify_level, make_level}
 
 abbrev all : App
 all = built padd
@@ -130,36 +130,6 @@ make_fault rest = rw (make_walk rest, make_faults rest) refl
 make_agrees : (rest : List Text) → has_dash rest ≡ false → Agrees (codes "make" ∷ rest) (make_in rest)
 make_agrees rest d = lifted (codes "make" ∷ rest) rest (sub 4) (make_in rest) (make_fault rest) (ap (λ (x : Walk). entered all x.stopped) (make_walk rest)) (make_level rest d)
 
-export_walk : (rest : List Text) → walk all.top.rules (names_of all) nothing_held (codes "export" ∷ rest) ≡ stop_at (codes "export") rest
-unfolding clap_on_literals
-export_walk rest = stopped_walk all.top.rules (names_of all) (codes "export") [] rest
-
-export_faults : (rest : List Text) → walk_fault all.top (names_of all) (at nothing_held 1) (codes "export" ∷ rest) ≡ []
-unfolding clap_on_literals
-export_faults rest = stopped_faults all.top (names_of all) (codes "export") [] rest
-
-export_fault : (rest : List Text) → fault_of padd (codes "export" ∷ rest) ≡ or_else (level_fault (sub 5) [] nothing_held rest false []) []
-unfolding clap_on_literals
-export_fault rest = rw (export_walk rest, export_faults rest) refl
-
-export_agrees : (rest : List Text) → has_dash rest ≡ false → Agrees (codes "export" ∷ rest) (moved_in export rest)
-export_agrees rest d = lifted (codes "export" ∷ rest) rest (sub 5) (moved_in export rest) (export_fault rest) (ap (λ (x : Walk). entered all x.stopped) (export_walk rest)) (export_level rest d)
-
-import_walk : (rest : List Text) → walk all.top.rules (names_of all) nothing_held (codes "import" ∷ rest) ≡ stop_at (codes "import") rest
-unfolding clap_on_literals
-import_walk rest = stopped_walk all.top.rules (names_of all) (codes "import") [] rest
-
-import_faults : (rest : List Text) → walk_fault all.top (names_of all) (at nothing_held 1) (codes "import" ∷ rest) ≡ []
-unfolding clap_on_literals
-import_faults rest = stopped_faults all.top (names_of all) (codes "import") [] rest
-
-import_fault : (rest : List Text) → fault_of padd (codes "import" ∷ rest) ≡ or_else (level_fault (sub 6) [] nothing_held rest false []) []
-unfolding clap_on_literals
-import_fault rest = rw (import_walk rest, import_faults rest) refl
-
-import_agrees : (rest : List Text) → has_dash rest ≡ false → Agrees (codes "import" ∷ rest) (moved_in import rest)
-import_agrees rest d = lifted (codes "import" ∷ rest) rest (sub 6) (moved_in import rest) (import_fault rest) (ap (λ (x : Walk). entered all x.stopped) (import_walk rest)) (import_level rest d)
-
 -- ---- a word that is no command
 
 other_met : (c : List Rule) (names : Names) (p : ℕ) (word : Text) (h : Held) → is_dash word ≡ false → subcommand_met names idle word ≡ None
@@ -188,9 +158,8 @@ stray word rest e m =
     λ none. kinds_differ _ _ (sym g ∙ none)
 
 none_named : (word : Text) → bytes_eq (codes "play") word ≡ false → bytes_eq (codes "serve") word ≡ false → bytes_eq (codes "write") word ≡ false
-    → bytes_eq (codes "verify") word ≡ false → bytes_eq (codes "make") word ≡ false → bytes_eq (codes "export") word ≡ false → bytes_eq (codes "import") word ≡ false
-    → subcommand_met (names_of all) idle word ≡ None
-none_named word a b c d e f g = rw (a, b, c, d, e, f, g) refl
+    → bytes_eq (codes "verify") word ≡ false → bytes_eq (codes "make") word ≡ false → subcommand_met (names_of all) idle word ≡ None
+none_named word a b c d e = rw (a, b, c, d, e) refl
 
 named : (name word : Text) (rest : List Text) (o : Option Form) → bytes_eq name word ≡ true → form_by name rest ≡ o → Agrees (name ∷ rest) o → Agrees (word ∷ rest) (form_by word rest)
 named name word rest o e f agrees =
@@ -210,15 +179,9 @@ judged word rest dash =
             | inl e ↦ named (codes "verify") word rest (verify_in rest) e refl (verify_agrees rest d.1)
             | inr n3 ↦ elim (cases_Bool (bytes_eq (codes "make") word)) [
               | inl e ↦ named (codes "make") word rest (make_in rest) e refl (make_agrees rest d.1)
-              | inr n4 ↦ elim (cases_Bool (bytes_eq (codes "export") word)) [
-                | inl e ↦ named (codes "export") word rest (moved_in export rest) e refl (export_agrees rest d.1)
-                | inr n5 ↦ elim (cases_Bool (bytes_eq (codes "import") word)) [
-                  | inl e ↦ named (codes "import") word rest (moved_in import rest) e refl (import_agrees rest d.1)
-                  | inr n6 ↦
-                      let none : form_by word rest ≡ None = rw (n0, n1, n2, n3, n4, n5, n6) refl in
-                      subst (Agrees (word ∷ rest)) (sym none) (stray word rest d.0 (none_named word n0 n1 n2 n3 n4 n5 n6))
-                ]
-              ]
+              | inr n4 ↦
+                  let none : form_by word rest ≡ None = rw (n0, n1, n2, n3, n4) refl in
+                  subst (Agrees (word ∷ rest)) (sym none) (stray word rest d.0 (none_named word n0 n1 n2 n3 n4))
             ]
           ]
         ]
@@ -234,8 +197,6 @@ met_again (serve a b c d) = refl
 met_again (write a b c) = refl
 met_again (verify a b) = refl
 met_again (make a b c) = refl
-met_again (export a b) = refl
-met_again (import a b) = refl
 
 form_agrees : (words : List Text) (o : Option Form) → Agrees words o → fault_of padd words ≡ [] → form_met (subcommand_of padd words) ≡ o
 form_agrees words None never none = absurd (never none)

@@ -10,7 +10,7 @@ use Rattle.clap.specs.Simple.{built, rows_at}
 use Rattle.clap.specs.Walk.{Held, Step, Walk, after_step, arg_by_index, finished, idle, nothing_held, settled, to_positional, value, walk, walked, word_met}
 use Rattle.clap.specs.Faults.{check_fault, defaults_fault, level_fault, positional_fault, settle_fault, stray_fault, turn_fault, walk_fault, word_fault}
 use Rattle.clap.proofs.OnLiterals.{clap_on_literals}
-use Rattle.ep_words.specs.Forms.{Form, export, import, has_dash, is_dash, play_in, serve_in, write_in, verify_in, make_in, moved_in}
+use Rattle.ep_words.specs.Forms.{Form, has_dash, is_dash, play_in, serve_in, write_in, verify_in, make_in}
 use Rattle.ep_words.specs.App.{padd, rows_for}
 
 -- ---- one word of a leaf
@@ -242,59 +242,3 @@ make_level (a ∷ b ∷ u ∷ x ∷ more) d =
     let f : walk_fault (sub 4) [] (at nothing_held 1) (a ∷ b ∷ u ∷ x ∷ more) ≡ _ =
     faults_step (sub 4) _ 1 a (b ∷ u ∷ x ∷ more) d0.0 ∙ faults_step (sub 4) _ 2 b (u ∷ x ∷ more) d1.0 ∙ faults_step (sub 4) _ 3 u (x ∷ more) d2.0 ∙ faults_step (sub 4) _ 4 x (more) d3.0 in
     refuses (sub 4) (a ∷ b ∷ u ∷ x ∷ more) _ (level_by (sub 4) (a ∷ b ∷ u ∷ x ∷ more) _ _ refl f) (kinds_differ _ _)
-
--- ---- export
-
-pub export_level : (words : List Text) → has_dash words ≡ false → Level (sub 5) words (moved_in export words)
-unfolding clap_on_literals
-export_level [] d = refuses (sub 5) [] _ refl (kinds_differ _ _)
-export_level (a ∷ []) d =
-    let d0 = or_false _ _ d in
-    let w : walk (sub 5).rules [] nothing_held (a ∷ []) ≡ _ =
-    walk_step (sub 5).rules _ 1 a d0.0 in
-    let f : walk_fault (sub 5) [] (at nothing_held 1) (a ∷ []) ≡ [] =
-    faults_step (sub 5) _ 1 a ([]) d0.0 in
-    refuses (sub 5) (a ∷ []) _ (level_by (sub 5) (a ∷ []) _ [] w f) (kinds_differ _ _)
-export_level (a ∷ b ∷ []) d =
-    let d0 = or_false _ _ d in
-    let d1 = or_false _ _ d0.1 in
-    let w : walk (sub 5).rules [] nothing_held (a ∷ b ∷ []) ≡ _ =
-    ap (λ (x : Walk). fold (walked (sub 5).rules []) x (b ∷ [])) (walk_step (sub 5).rules _ 1 a d0.0) ∙ walk_step (sub 5).rules _ 2 b d1.0 in
-    let f : walk_fault (sub 5) [] (at nothing_held 1) (a ∷ b ∷ []) ≡ [] =
-    faults_step (sub 5) _ 1 a (b ∷ []) d0.0 ∙ faults_step (sub 5) _ 2 b ([]) d1.0 in
-    (level_by (sub 5) (a ∷ b ∷ []) _ [] w f, ap (λ (x : Walk). Some ((sub 5).name, finished (sub 5).rules x.held)) w)
-export_level (a ∷ b ∷ x ∷ more) d =
-    let d0 = or_false _ _ d in
-    let d1 = or_false _ _ d0.1 in
-    let d2 = or_false _ _ d1.1 in
-    let f : walk_fault (sub 5) [] (at nothing_held 1) (a ∷ b ∷ x ∷ more) ≡ _ =
-    faults_step (sub 5) _ 1 a (b ∷ x ∷ more) d0.0 ∙ faults_step (sub 5) _ 2 b (x ∷ more) d1.0 ∙ faults_step (sub 5) _ 3 x (more) d2.0 in
-    refuses (sub 5) (a ∷ b ∷ x ∷ more) _ (level_by (sub 5) (a ∷ b ∷ x ∷ more) _ _ refl f) (kinds_differ _ _)
-
--- ---- import
-
-pub import_level : (words : List Text) → has_dash words ≡ false → Level (sub 6) words (moved_in import words)
-unfolding clap_on_literals
-import_level [] d = refuses (sub 6) [] _ refl (kinds_differ _ _)
-import_level (a ∷ []) d =
-    let d0 = or_false _ _ d in
-    let w : walk (sub 6).rules [] nothing_held (a ∷ []) ≡ _ =
-    walk_step (sub 6).rules _ 1 a d0.0 in
-    let f : walk_fault (sub 6) [] (at nothing_held 1) (a ∷ []) ≡ [] =
-    faults_step (sub 6) _ 1 a ([]) d0.0 in
-    refuses (sub 6) (a ∷ []) _ (level_by (sub 6) (a ∷ []) _ [] w f) (kinds_differ _ _)
-import_level (a ∷ b ∷ []) d =
-    let d0 = or_false _ _ d in
-    let d1 = or_false _ _ d0.1 in
-    let w : walk (sub 6).rules [] nothing_held (a ∷ b ∷ []) ≡ _ =
-    ap (λ (x : Walk). fold (walked (sub 6).rules []) x (b ∷ [])) (walk_step (sub 6).rules _ 1 a d0.0) ∙ walk_step (sub 6).rules _ 2 b d1.0 in
-    let f : walk_fault (sub 6) [] (at nothing_held 1) (a ∷ b ∷ []) ≡ [] =
-    faults_step (sub 6) _ 1 a (b ∷ []) d0.0 ∙ faults_step (sub 6) _ 2 b ([]) d1.0 in
-    (level_by (sub 6) (a ∷ b ∷ []) _ [] w f, ap (λ (x : Walk). Some ((sub 6).name, finished (sub 6).rules x.held)) w)
-import_level (a ∷ b ∷ x ∷ more) d =
-    let d0 = or_false _ _ d in
-    let d1 = or_false _ _ d0.1 in
-    let d2 = or_false _ _ d1.1 in
-    let f : walk_fault (sub 6) [] (at nothing_held 1) (a ∷ b ∷ x ∷ more) ≡ _ =
-    faults_step (sub 6) _ 1 a (b ∷ x ∷ more) d0.0 ∙ faults_step (sub 6) _ 2 b (x ∷ more) d1.0 ∙ faults_step (sub 6) _ 3 x (more) d2.0 in
-    refuses (sub 6) (a ∷ b ∷ x ∷ more) _ (level_by (sub 6) (a ∷ b ∷ x ∷ more) _ _ refl f) (kinds_differ _ _)

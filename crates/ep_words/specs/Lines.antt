@@ -15,8 +15,6 @@ pub data Line : Type 0 where
   write : Text → Text → Text → Line
   verify : Text → ℕ → Line
   make : ℕ → ℕ → ℕ → Line
-  export : Text → List ℕ → Line
-  import : Text → List ℕ → Line
 
 -- what a command in code asks for
 abbrev pub line_of : Command → Line
@@ -25,8 +23,6 @@ line_of (command.Serve pads api dir key) = serve pads.now api.now dir.now key.no
 line_of (command.Write addr pad token) = write addr.now pad.now token.now
 line_of (command.Verify dir workers) = verify dir.now workers
 line_of (command.Make number clients edits) = make number clients edits
-line_of (command.Export dir pad) = export dir.now pad
-line_of (command.Import dir pad) = import dir.now pad
 
 -- what its line asks of a command: an id without a group, a key, numbers within bounds
 abbrev pub HasItsForm : Command → Type 0
@@ -35,8 +31,6 @@ HasItsForm (command.Serve pads api dir key) = key.now ≢ []
 HasItsForm (command.Write addr pad token) = ⊤
 HasItsForm (command.Verify dir workers) = (1 ≤ workers) × (workers ≤ 64)
 HasItsForm (command.Make number clients edits) = (1 ≤ clients) × (clients ≤ 64) × (edits ≤ 100000)
-HasItsForm (command.Export dir pad) = ⊤
-HasItsForm (command.Import dir pad) = ⊤
 
 -- a pad's own id without a group
 abbrev pub play_line : List ℕ → Option Line
@@ -60,10 +54,6 @@ make_by _ _ _ = None
 abbrev pub make_line : Text → Text → Text → Option Line
 make_line number clients edits = make_by (number_in number) (number_within 1 64 clients) (number_within 0 100000 edits)
 
--- a pad's own id, of a group or none
-abbrev pub moved_line : (Text → List ℕ → Line) → Text → List ℕ → Option Line
-moved_line f dir id = if is_own_id id then Some (f dir id) else None
-
 -- what a command with these texts asks for; a script is played on the pad `pad` where none is named
 abbrev pub line_by : Form → Option Line
 line_by (form.play None) = play_line (units_of (codes "pad"))
@@ -72,8 +62,6 @@ line_by (form.serve pads api dir key) = serve_line pads api dir key
 line_by (form.write addr pad token) = Some (write addr pad token)
 line_by (form.verify dir workers) = verify_line dir workers
 line_by (form.make number clients edits) = make_line number clients edits
-line_by (form.export dir pad) = moved_line export dir (units_of pad)
-line_by (form.import dir pad) = moved_line import dir (units_of pad)
 
 -- what the words ask for, if it is anything
 abbrev pub line_in : List Text → Option Line

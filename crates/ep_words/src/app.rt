@@ -2,7 +2,7 @@
 
 ghost use Rattle.std.specs.Prelude.{◌≡◌, false, codes, [], ◌∷◌, IfOk};
 ghost use Rattle.clap.specs.Words.{App, rule_of, with_subcommand};
-ghost use Rattle.ep_words.specs.App.{IsMade, leaf, may_have, padd, top, wanted, with_moving};
+ghost use Rattle.ep_words.specs.App.{IsMade, leaf, may_have, padd, top, wanted};
 
 use clap::{Arg, ArgAction, Command};
 use std::alloc::{AllocError, Global};
@@ -58,22 +58,6 @@ fn make<'a>(alloc: Global) -> Result<Command<'a>, AllocError>
         .arg(wanted(alloc, "edits"))
 }
 
-fn export<'a>(alloc: Global) -> Result<Command<'a>, AllocError>
-    ensures { IfOk result (λ c. IsMade c (leaf (codes "export") (codes "dir" ∷ codes "pad" ∷ []))) }
-{
-    Command::new(alloc, "export")
-        .arg(wanted(alloc, "dir"))?
-        .arg(wanted(alloc, "pad"))
-}
-
-fn import<'a>(alloc: Global) -> Result<Command<'a>, AllocError>
-    ensures { IfOk result (λ c. IsMade c (leaf (codes "import") (codes "dir" ∷ codes "pad" ∷ []))) }
-{
-    Command::new(alloc, "import")
-        .arg(wanted(alloc, "dir"))?
-        .arg(wanted(alloc, "pad"))
-}
-
 // The command above the others, which takes no word of its own.
 fn top<'a>(alloc: Global) -> Command<'a>
     ensures { IsMade result top }
@@ -92,14 +76,6 @@ fn with_leaf<'a>(above: Command<'a>, leaf: Command<'a>) -> Result<Command<'a>, A
     above.subcommand(leaf)
 }
 
-// With the two commands that move a pad.
-fn moving<'a>(alloc: Global, above: Command<'a>) -> Result<Command<'a>, AllocError>
-    ensures { (a : App) → IsMade above.entry a → IfOk result (λ c. IsMade c (with_moving a)) }
-{
-    let first = with_leaf(above, export(alloc)?)?;
-    with_leaf(first, import(alloc)?)
-}
-
 /// The command of the words, with a subcommand for each first word.
 pub fn padd<'a>(alloc: Global) -> Result<Command<'a>, AllocError>
     ensures { IfOk result (λ c. IsMade c padd) }
@@ -108,6 +84,5 @@ pub fn padd<'a>(alloc: Global) -> Result<Command<'a>, AllocError>
     let second = with_leaf(first, serve(alloc)?)?;
     let third = with_leaf(second, write(alloc)?)?;
     let fourth = with_leaf(third, verify(alloc)?)?;
-    let fifth = with_leaf(fourth, make(alloc)?)?;
-    moving(alloc, fifth)
+    with_leaf(fourth, make(alloc)?)
 }

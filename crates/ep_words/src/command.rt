@@ -33,14 +33,4 @@ pub enum Command<'a> {
         clients: u64,
         edits: u64,
     },
-    /// The whole history of a pad of a folder, written.
-    Export {
-        dir: &'a str,
-        pad: PadId,
-    },
-    /// A whole history put into the file of a pad of a folder.
-    Import {
-        dir: &'a str,
-        pad: PadId,
-    },
 }

@@ -4,8 +4,8 @@ ghost use Rattle.std.specs.Prelude.{◌≡◌, map, Some, None, option_map, Matc
 ghost use Rattle.std.specs.List.{list_any};
 ghost use Rattle.std.specs.String.{string_bytes};
 ghost use Rattle.clap.specs.Words.{found_of, first_of, kind_of, rows_of, subcommand_rows_of};
-ghost use Rattle.ep_words.specs.Forms.{export, form_in, form_of, import, is_dash, serve, write, verify, make};
-ghost use Rattle.ep_words.specs.App.{form_found, form_met, four, is_no_memory, moving_found, text_in, three, two};
+ghost use Rattle.ep_words.specs.Forms.{form_in, form_of, is_dash, serve, write, verify, make};
+ghost use Rattle.ep_words.specs.App.{form_found, form_met, four, is_no_memory, text_in, three, two};
 
 use crate::app::padd;
 use crate::bad::WordsBad;
@@ -38,14 +38,6 @@ pub enum Parts<'a> {
         number: &'a str,
         clients: &'a str,
         edits: &'a str,
-    },
-    Export {
-        dir: &'a str,
-        pad: &'a str,
-    },
-    Import {
-        dir: &'a str,
-        pad: &'a str,
     },
 }
 
@@ -128,37 +120,6 @@ fn make_parts<'a>(
     }
 }
 
-fn export_parts<'a>(dir: Option<&'a str>, pad: Option<&'a str>) -> Option<Parts<'a>>
-    ensures { option_map form_of result ≡ two export (text_in dir.entry) (text_in pad.entry) }
-{
-    match (dir, pad) {
-        (Some(dir), Some(pad)) => Some(Parts::Export { dir, pad }),
-        _ => None,
-    }
-}
-
-fn import_parts<'a>(dir: Option<&'a str>, pad: Option<&'a str>) -> Option<Parts<'a>>
-    ensures { option_map form_of result ≡ two import (text_in dir.entry) (text_in pad.entry) }
-{
-    match (dir, pad) {
-        (Some(dir), Some(pad)) => Some(Parts::Import { dir, pad }),
-        _ => None,
-    }
-}
-
-// What was found for a command that moves a pad.
-fn moving_found<'a>(name: &str, sub: &ArgMatches<'a>) -> Option<Parts<'a>>
-    ensures { option_map form_of result ≡ moving_found name.now (rows_of (found_of sub.now)) }
-{
-    if name == "export" {
-        return export_parts(text(sub, "dir"), text(sub, "pad"));
-    }
-    if name == "import" {
-        return import_parts(text(sub, "dir"), text(sub, "pad"));
-    }
-    None
-}
-
 // What was found for a command.
 fn found<'a>(name: &str, sub: &ArgMatches<'a>) -> Option<Parts<'a>>
     ensures { option_map form_of result ≡ form_found name.now (rows_of (found_of sub.now)) }
@@ -189,7 +150,7 @@ fn found<'a>(name: &str, sub: &ArgMatches<'a>) -> Option<Parts<'a>>
             text(sub, "edits"),
         );
     }
-    moving_found(name, sub)
+    None
 }
 
 fn parts_of<'a>(matches: &ArgMatches<'a>) -> Option<Parts<'a>>

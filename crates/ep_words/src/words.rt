@@ -1,11 +1,11 @@
 //! What the words ask for.
 
-ghost use Rattle.std.specs.Prelude.{◌≡◌, map, true, false, Some, None, option_map, IfOk, IfSome, IsErrOf, MatchResult};
+ghost use Rattle.std.specs.Prelude.{◌≡◌, map, Some, None, option_map, IfOk, IfSome, IsErrOf, MatchResult};
 ghost use Rattle.std.specs.String.{string_bytes};
-ghost use Rattle.ep_units.specs.PadId.{has_group, is_own_id};
+ghost use Rattle.ep_units.specs.PadId.{has_group};
 ghost use Rattle.ep_units.specs.Utf8.{units_of};
 ghost use Rattle.ep_words.specs.Forms.{form_of};
-ghost use Rattle.ep_words.specs.Lines.{HasItsForm, export, import, line_by, line_in, line_of, make_line, moved_line, play_line, serve_line, verify_line};
+ghost use Rattle.ep_words.specs.Lines.{HasItsForm, line_by, line_in, line_of, make_line, play_line, serve_line, verify_line};
 
 use crate::bad::WordsBad;
 use crate::command::Command;
@@ -74,39 +74,6 @@ fn make<'a>(number: &str, clients: &str, edits: &str) -> Option<Command<'a>>
     }
 }
 
-/// The id that a text is.
-fn id_of(alloc: Global, text: &str) -> Result<PadId, WordsBad>
-    ensures { MatchResult result (λ pad. (is_own_id (units_of text.now) ≡ true) × (pad ≡ units_of text.now)) (λ e. e ≡ WordsBad.Usage → is_own_id (units_of text.now) ≡ false) }
-{
-    let units = Units::from_str(alloc, text)?;
-    let Some(pad) = PadId::read(alloc, &units)? else {
-        return Err(WordsBad::Usage);
-    };
-    Ok(pad)
-}
-
-#[tactic(auto, using(crate::proofs::Pads::moved, crate::proofs::Pads::not_moved))]
-fn export<'a>(alloc: Global, dir: &'a str, pad: &str) -> Result<Command<'a>, WordsBad>
-    ensures exact { MatchResult result (λ c. moved_line export dir.entry.now (units_of pad.now) ≡ Some (line_of c)) (λ e. e ≡ WordsBad.Usage → moved_line export dir.entry.now (units_of pad.now) ≡ None) }
-    ensures form { IfOk result HasItsForm }
-{
-    match id_of(alloc, pad) {
-        Ok(pad) => Ok(Command::Export { dir, pad }),
-        Err(why) => Err(why),
-    }
-}
-
-#[tactic(auto, using(crate::proofs::Pads::moved, crate::proofs::Pads::not_moved))]
-fn import<'a>(alloc: Global, dir: &'a str, pad: &str) -> Result<Command<'a>, WordsBad>
-    ensures exact { MatchResult result (λ c. moved_line import dir.entry.now (units_of pad.now) ≡ Some (line_of c)) (λ e. e ≡ WordsBad.Usage → moved_line import dir.entry.now (units_of pad.now) ≡ None) }
-    ensures form { IfOk result HasItsForm }
-{
-    match id_of(alloc, pad) {
-        Ok(pad) => Ok(Command::Import { dir, pad }),
-        Err(why) => Err(why),
-    }
-}
-
 fn command_of<'a>(alloc: Global, parts: Parts<'a>) -> Result<Command<'a>, WordsBad>
     ensures exact { MatchResult result (λ c. line_by (form_of parts.entry) ≡ Some (line_of c)) (λ e. e ≡ WordsBad.Usage → line_by (form_of parts.entry) ≡ None) }
     ensures form { IfOk result HasItsForm }
@@ -126,8 +93,6 @@ fn command_of<'a>(alloc: Global, parts: Parts<'a>) -> Result<Command<'a>, WordsB
             clients,
             edits,
         } => make(number, clients, edits),
-        Parts::Export { dir, pad } => return export(alloc, dir, pad),
-        Parts::Import { dir, pad } => return import(alloc, dir, pad),
     };
     asked.ok_or(WordsBad::Usage)
 }

@@ -1,6 +1,5 @@
 //! Words, and what they ask for.
 
-use ep_units::PadId;
 use ep_words::{Command, WordsBad, read_words};
 use std::alloc::{AllocError, Global};
 use std::test::Fail;
@@ -17,22 +16,6 @@ fn words_of(alloc: Global, line: &str) -> Result<Vec<String>, AllocError> {
         words.push(word_of(alloc, word)?)?;
     }
     Ok(words)
-}
-
-/// A pad of a folder: these two texts, of which the second is ASCII.
-fn is_moved(dir: &str, pad: &PadId, texts: &[&str]) -> bool {
-    match texts {
-        [folder, id] => *folder == dir && is_ascii(pad.as_slice(), id.as_bytes()),
-        _ => false,
-    }
-}
-
-fn is_ascii(units: &[u16], bytes: &[u8]) -> bool {
-    units.len() == bytes.len()
-        && units
-            .iter()
-            .zip(bytes.iter())
-            .all(|(unit, byte)| *unit == u16::from(*byte))
 }
 
 /// The command of this name, with these texts and numbers, each in their order.
@@ -58,8 +41,6 @@ fn is_command(command: &Command<'_>, name: &str, texts: &[&str], numbers: &[u64]
             clients,
             edits,
         } => name == "make" && numbers == [*number, *clients, *edits].as_slice(),
-        Command::Export { dir, pad } => { name == "export" && is_moved(dir, pad, texts) }
-        Command::Import { dir, pad } => { name == "import" && is_moved(dir, pad, texts) }
     }
 }
 
@@ -101,13 +82,6 @@ fn asked(rt: HostRuntime) -> Result<(), Fail> {
             no_texts,
             &[u64::MAX, 1, 100_000],
         ),
-        ("export pads p", "export", &["pads", "p"], no_numbers),
-        (
-            "import pads g.abcdefghijklmnop$x",
-            "import",
-            &["pads", "g.abcdefghijklmnop$x"],
-            no_numbers,
-        ),
     ] {
         assert!(rt;
             is_asked(rt.alloc(), line, name, texts, numbers)?,
@@ -122,7 +96,7 @@ fn is_refused(alloc: Global, line: &str) -> Result<bool, AllocError> {
     Ok(matches!(read_words(alloc, &words), Err(WordsBad::Usage)))
 }
 
-const REFUSED: [&str; 39] = [
+const REFUSED: [&str; 34] = [
     "_",
     "fly",
     "pla",
@@ -157,11 +131,6 @@ const REFUSED: [&str; 39] = [
     "make 1 65 1",
     "make 1 1 100001",
     "make 1 1 1 1",
-    "export d",
-    "export d p q",
-    "export d a$b",
-    "import d _",
-    "import d r.x",
 ];
 
 #[test]

@@ -6,5 +6,4 @@ returns c =
     let second = c.in_ok-second.ensures _ _ first c.in_ok-serve.ensures in
     let third = c.in_ok-third.ensures _ _ second c.in_ok-write.ensures in
     let fourth = c.in_ok-fourth.ensures _ _ third c.in_ok-verify.ensures in
-    let fifth = c.in_ok-fifth.ensures _ _ fourth c.in_ok-make.ensures in
-    c.moving.ensures _ fifth
+    c.with_leaf-5.ensures _ _ fourth c.in_ok-make.ensures
