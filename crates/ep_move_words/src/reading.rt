@@ -84,11 +84,15 @@ fn asked_by<'a>(
 }
 
 /// What the words behind the program's name ask for, where it is that a pad be moved.
+#[tactic(auto, using(crate::proofs::Ids::none_but_three))]
 pub fn read_move<'a>(alloc: Global, words: &'a [String]) -> Result<Option<Move<'a>>, NoMemory>
     ensures { IfOk result (λ asked. option_map asked_of asked ≡ asked_in (map string_bytes words.entry.now)) }
 {
+    if words.len() != 3 {
+        return Ok(None);
+    }
     match words {
         [first, dir, pad] => asked_by(alloc, first.as_str(), dir.as_str(), pad.as_str()),
-        _ => Ok(None),
+        _ => unreachable!(),
     }
 }

@@ -1,7 +1,5 @@
 -- For which pads something reread stands.
 use Rattle.std.specs.Prelude.{◌≡◌, ℕ, ◌≤◌, Bool, true, false, List, ◌∷◌, length, Option, Some, None}
-use Rattle.ep_units.specs.Text.{Text, is_well_formed}
-use Rattle.ep_units.specs.Clean.{clean}
 use Rattle.ep_history.specs.History.{head_doc}
 use Rattle.ep_history.specs.Pad.{PadState, newest}
 use Rattle.ep_history.specs.Records.{IsNext, next_pad}
@@ -31,8 +29,3 @@ pub record IsReread (k : Reread) (p : PadState) : Type 0 where
 abbrev pub MayFollow : {K : Type 0} → (K → PadState → Type 0) → PadState → Record → K → Bool → Type 0
 MayFollow Stands p r new true = IsNext p r × Stands new (next_pad p r)
 MayFollow Stands p r new false = IsNext p r → ⊥
-
--- whether a text is one that cleaning leaves as it is
-abbrev pub IsCleaned : Text → Bool → Type 0
-IsCleaned text true = (is_well_formed text ≡ true) × (clean text ≡ text)
-IsCleaned text false = is_well_formed text ≡ true → clean text ≡ text → ⊥

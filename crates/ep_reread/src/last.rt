@@ -52,8 +52,9 @@ impl Last {
         let Ok(step) = first_step(alloc, text, u64::MAX) else {
             return Err(NoMemory);
         };
+        let revised = step.into_revs_of_nobody(alloc, time);
         let mut last = Last::begun(alloc)?;
-        last.push(step.into_revs_of_nobody(alloc, time))?;
+        last.push(revised)?;
         Ok(last)
     }
 
@@ -96,10 +97,14 @@ impl Last {
     ) -> Result<bool, NoMemory>
         ensures { (p : PadState) → IsThere self.old p → IfOk result (MayFollow IsThere p (record_of.Rev session time author fixed change) self.new) }
     {
-        let Some(step) = next_step(alloc, &self.doc, change, fixed)? else {
-            return Ok(false);
-        };
-        self.push(step.into_revs(alloc, author, session, time))?;
-        Ok(true)
+        let step = next_step(alloc, &self.doc, change, fixed)?;
+        match step {
+            None => Ok(false),
+            Some(step) => {
+                let revised = step.into_revs(alloc, author, session, time);
+                self.push(revised)?;
+                Ok(true)
+            }
+        }
     }
 }

@@ -1,11 +1,13 @@
 //! Records, one after another.
 
-ghost use Rattle.std.specs.Prelude.{◌≡◌, ◌∷◌, [], true, false, IfOk, IsTrue, IfSome};
+ghost use Rattle.std.specs.Prelude.{◌≡◌, ◌↔◌, suc, IfOk, IsSome, IsTrue, None};
+ghost use Rattle.ep_units.specs.Clean.{clean};
 ghost use Rattle.ep_history.specs.Pad.{PadState};
 ghost use Rattle.ep_history.specs.Records.{unopened};
 ghost use Rattle.ep_history.specs.declared.record.Record.TheVariants as record_of;
 ghost use Rattle.ep_verify.specs.Verdicts.{no_limits};
-ghost use Rattle.ep_reread.specs.Told.{IsCleaned, IsReread, MayFollow};
+ghost use Rattle.ep_reread.specs.Born.{IsBorn, MayBear};
+ghost use Rattle.ep_reread.specs.Told.{IsLast, IsReread, MayFollow};
 
 use crate::last::Last;
 use ep_cs::Change;
@@ -32,15 +34,18 @@ impl Drop for Reread {
     }
 }
 
-/// Whether a text is one that stays as it is where it is cleaned.
-fn is_cleaned(alloc: Global, text: &Units) -> Result<bool, NoMemory>
-    ensures { IfOk result (IsCleaned text.now) }
+fn is_same(a: &Units, b: &Units) -> bool
+    ensures { IsTrue result ↔ (a.now ≡ b.now) }
 {
-    if !text.well_formed() {
-        return Ok(false);
-    }
+    *a == *b
+}
+
+/// Whether cleaning leaves a text as it is.
+fn is_clean(alloc: Global, text: &Units) -> Result<bool, NoMemory>
+    ensures { IfOk result (λ is. IsTrue is ↔ (clean text.now ≡ text.now)) }
+{
     let cleaned = text.clean(alloc)?;
-    Ok(cleaned == *text)
+    Ok(is_same(&cleaned, text))
 }
 
 impl Reread {
@@ -80,13 +85,14 @@ impl Reread {
     }
 
     fn is_there(&self) -> bool
-        ensures { (p : PadState) → IsReread self.now p → result ≡ p.present }
+        ensures { IsTrue result ↔ IsSome self.now.last }
     {
         self.last.is_some()
     }
 
     fn opened(&mut self, epoch: u64) -> bool
-        ensures { (p : PadState) → IsReread self.old p → MayFollow IsReread p (record_of.Open epoch) self.new result }
+        ensures goes { IsTrue result ↔ (epoch ≡ suc self.old.epoch) }
+        ensures new { IsTrue result → self.new ≡ record self.old { epoch = epoch } }
     {
         if epoch == 0 || epoch - 1 != self.epoch {
             return false;
@@ -96,7 +102,9 @@ impl Reread {
     }
 
     /// Whether the next birth may have this number.
-    fn may_bear(&self, birth: u64) -> bool {
+    fn may_bear(&self, birth: u64) -> bool
+        ensures { IsTrue result ↔ MayBear self.now birth }
+    {
         self.epoch > 0 && self.last.is_none() && birth > 0 && birth - 1 == self.births
     }
 
@@ -107,12 +115,16 @@ impl Reread {
         time: u64,
         text: &Units,
     ) -> Result<bool, NoMemory>
-        ensures { (p : PadState) → IsReread self.old p → IfOk result (MayFollow IsReread p (record_of.Create birth time text.now) self.new) }
+        ensures { IfOk result (IsBorn self.old self.new birth time text.now) }
     {
-        if !self.may_bear(birth) || !is_cleaned(alloc, text)? {
+        if !self.may_bear(birth) || !text.well_formed() {
             return Ok(false);
         }
-        self.last = Some(Last::first(alloc, time, text)?);
+        if !is_clean(alloc, text)? {
+            return Ok(false);
+        }
+        let first = Last::first(alloc, time, text)?;
+        self.last = Some(first);
         self.births = birth;
         self.public = false;
         Ok(true)
@@ -127,7 +139,8 @@ impl Reread {
         fixed: bool,
         change: Change,
     ) -> Result<bool, NoMemory>
-        ensures { (p : PadState) → IsReread self.old p → IfOk result (MayFollow IsReread p (record_of.Rev session time author fixed change) self.new) }
+        ensures follows { (p : PadState) → IsLast self.old.last p → IfOk result (MayFollow IsLast p (record_of.Rev session time author fixed change) self.new.last) }
+        ensures stays { self.new ≡ record self.old { last = self.new.last } }
     {
         match &mut self.last {
             Some(last) => last.next(alloc, session, time, author, fixed, change),
@@ -136,7 +149,8 @@ impl Reread {
     }
 
     fn deleted(&mut self) -> bool
-        ensures { (p : PadState) → IsReread self.old p → (time : ℕ) → MayFollow IsReread p (record_of.Delete time) self.new result }
+        ensures goes { IsTrue result ↔ IsSome self.old.last }
+        ensures new { self.new ≡ record self.old { last = None } }
     {
         let was = self.is_there();
         self.last = None;
@@ -144,7 +158,8 @@ impl Reread {
     }
 
     fn published(&mut self, on: bool) -> bool
-        ensures { (p : PadState) → IsReread self.old p → MayFollow IsReread p (record_of.Public on) self.new result }
+        ensures goes { IsTrue result ↔ IsSome self.old.last }
+        ensures new { self.new ≡ record self.old { public = on } }
     {
         let is = self.is_there();
         self.public = on;

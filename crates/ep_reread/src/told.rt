@@ -1,10 +1,11 @@
 //! What the bytes of a file tell.
 
-ghost use Rattle.std.specs.Prelude.{◌≡◌, List, ℕ, length, IfErr, IfOk};
+ghost use Rattle.std.specs.Prelude.{◌≡◌, List, ℕ, length, IfErr, IfOk, IfSome};
 ghost use Rattle.ep_history.specs.Pad.{PadState};
 ghost use Rattle.ep_history.specs.Records.{told};
 ghost use Rattle.ep_history.specs.declared.record.Record.{Record};
 ghost use Rattle.ep_journal.specs.File.{records_of};
+ghost use Rattle.ep_past.specs.Revisions.{AreRevisions};
 ghost use Rattle.ep_pad.specs.Opening.{IsBadAt, IsFront};
 ghost use Rattle.ep_verify.specs.Verdicts.{Tells, no_limits};
 ghost use Rattle.ep_reread.specs.Told.{IsReread};
@@ -13,6 +14,7 @@ ghost use Rattle.ep_reread.specs.declared.told.Untold.TheVariants as untold;
 
 use crate::rereading::Reread;
 use ep_journal::{Records, scan};
+use ep_past::births_are_revisions;
 use ep_record::decode;
 use ep_units::NoMemory;
 use std::alloc::Global;
@@ -56,8 +58,10 @@ fn reread(alloc: Global, records: &Records) -> Result<Reread, Untold>
 /// What the bytes of a file tell of its pad.
 pub fn told_by(alloc: Global, bytes: &[u8]) -> Result<Reread, Untold>
     ensures tells { IfOk result (λ pad. (p : PadState) × Tells bytes.now p × IsReread pad p) }
+    ensures revisions { IfOk result (λ pad. IfSome pad.last (λ last. AreRevisions last.revs.items)) }
     ensures untold { IfErr result (IsUntold bytes.now) }
 {
+    births_are_revisions();
     let Some(records) = scan(alloc, bytes)? else {
         return Err(Untold::Foreign);
     };
