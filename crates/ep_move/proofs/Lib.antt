@@ -1,0 +1,4 @@
+pub mod Births
+pub mod Following
+pub mod Fronts
+pub mod Telling

@@ -1,5 +1,6 @@
 -- The lines that are written of a pad that is moved.
-use Rattle.std.specs.Prelude.{ℕ, List, [], ◌∷◌, ◌++◌, codes, decimal}
+use Rattle.std.specs.Prelude.{ℕ, List, [], ◌∷◌, ◌++◌, codes}
+use Rattle.std.specs.Fmt.{decimal}
 use Rattle.ep_units.specs.Text.{Text}
 use Rattle.ep_import.specs.Places.{path}
 use Rattle.ep_move.specs.declared.lines.Reason.{Reason}
@@ -26,11 +27,11 @@ line text = text ++ 10 ∷ []
 
 -- what is written of a refusal
 abbrev pub refusal : Text → Reason → List ℕ
-refusal id why = line (codes "refused " ++ reason_text id why)
+refusal id why = codes "refused " ++ (reason_text id why ++ 10 ∷ [])
 
 -- what is written of a history that was put: the number of its last revision
 abbrev pub imported : ℕ → List ℕ
-imported head = line (codes "imported head " ++ decimal head)
+imported head = codes "imported head " ++ (decimal head ++ 10 ∷ [])
 
 -- how the program is used
 abbrev pub usage : List ℕ

@@ -1,5 +1,6 @@
 -- How moving a pad ends.
-use Rattle.std.specs.Prelude.{◌≡◌, ◌⊎◌, ℕ, ◌-◌, ◌≤◌, Bool, true, false, List, [], length, Contains, IsUtf8, Option, Some, None, Ok, Err}
+use Rattle.std.specs.Prelude.{◌≡◌, ◌⊎◌, ℕ, ◌-◌, ◌≤◌, Bool, true, false, List, [], length, bytes_eq, IsUtf8, Option, Some, None, Ok, Err}
+use Rattle.std.specs.List.{list_any}
 use Rattle.ep_units.specs.Text.{Text}
 use Rattle.ep_outside.specs.Disk.{Contents}
 use Rattle.ep_outside.specs.Outside.{HasRisen, IsWhole, Takes, TakesPart}
@@ -40,16 +41,14 @@ FailsBy {D} disk_told failures told = (first : D) × (last : D) × Holds told (d
 
 -- ---- a pad's history goes out
 
+-- whether an id is among some names
+abbrev pub is_among : List (List ℕ) → Text → Bool
+is_among names id = list_any (λ name. bytes_eq name id) names
+
 -- where names are told, this one isn't among them
 abbrev pub IsUnnamed : Option (List (List ℕ)) → Text → Type 0
 IsUnnamed None id = Unit {0}
-IsUnnamed (Some ns) id = Contains ns id → ⊥
-
--- whether a name is among those that are told
-abbrev pub IsNamed : Option (List (List ℕ)) → Text → Bool → Type 0
-IsNamed names id false = IsUnnamed names id
-IsNamed None id true = Unit {0}
-IsNamed (Some ns) id true = Contains ns id
+IsUnnamed (Some names) id = is_among names id ≡ false
 
 -- the file of a name was read, or the name isn't among those that are told
 abbrev pub IsFound : Option (List (List ℕ)) → Option Contents → Text → Option (List ℕ) → Type 0

@@ -3,8 +3,6 @@ use Rattle.std.specs.Prelude.{◌≡◌, ◌⊎◌, ℕ, ◌-◌, ◌≤◌, Boo
 use Rattle.ep_units.specs.Text.{Text}
 use Rattle.ep_outside.specs.Disk.{Contents}
 use Rattle.ep_outside.specs.Outside.{Takes, TakesPart}
-use Rattle.ep_outside.specs.declared.shelf.ShelfBad.{ShelfBad}
-use Rattle.ep_outside.specs.declared.shelf.ShelfBad.TheVariants as shelf_bad
 use Rattle.ep_journal.specs.File.{stands_for}
 use Rattle.ep_journal.specs.Held.{Stands}
 use Rattle.ep_journal.specs.Journal.{IsReady, disk_of, limit_of}
@@ -19,19 +17,12 @@ use Rattle.ep_put.specs.declared.bad.PutBad.TheVariants as put_bad
 use Rattle.ep_move.specs.Lines.{imported, refusal}
 use Rattle.ep_move.specs.Moving.{IsUntaken, most_file}
 use Rattle.ep_move.specs.Text.{IsCut, most_read}
-use Rattle.ep_move.specs.declared.file.Unread.{Unread}
-use Rattle.ep_move.specs.declared.file.Unread.TheVariants as unread
 use Rattle.ep_move.specs.declared.lines.Reason.{Reason}
 use Rattle.ep_move.specs.declared.lines.Reason.TheVariants as reason
 use Rattle.ep_move.specs.declared.moved.Moved.{Moved}
 use Rattle.ep_move.specs.declared.moved.Moved.TheVariants as moved
 use Rattle.ep_move.specs.declared.stop.Stop.{Stop}
 use Rattle.ep_move.specs.declared.stop.Stop.TheVariants as stop
-
--- what a shelf's refusal is of a file
-abbrev pub unread_by : ShelfBad → Unread
-unread_by shelf_bad.Failed = unread.Fault
-unread_by shelf_bad.NoMemory = unread.NoMemory
 
 abbrev pub stop_by_import : ImportBad → Stop
 stop_by_import (bad.TooBig n) = stop.Refused (reason.TooBig n)

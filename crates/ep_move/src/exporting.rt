@@ -1,14 +1,15 @@
 //! A history that goes out of its pad's file.
 
-ghost use Rattle.std.specs.Prelude.{◌≡◌, ◌≢◌, ◌⊎◌, ℕ, List, true, false, IfOk, IfSome, IsErrOf};
+ghost use Rattle.std.specs.Prelude.{◌≡◌, ◌≢◌, ◌⊎◌, ℕ, List, Option, true, false, option_map, IfOk, IfSome, IsErrOf};
 ghost use Rattle.std.specs.String.{string_bytes};
+ghost use Rattle.ep_outside.specs.Disk.{Contents};
 ghost use Rattle.ep_outside.specs.Outside.{HasCause, HasRisen};
 ghost use Rattle.ep_history.specs.Pad.{PadState};
 ghost use Rattle.ep_past.specs.Revisions.{AreRevisions};
-ghost use Rattle.ep_reread.specs.Told.{IsReread};
+ghost use Rattle.ep_move.specs.Reread.{IsReread};
 ghost use Rattle.ep_verify.specs.Verdicts.{Tells};
 ghost use Rattle.ep_move.specs.Lines.{line as with_end, refusal};
-ghost use Rattle.ep_move.specs.Moving.{FailsBy, GoesOut, IsSaid, WritesLine};
+ghost use Rattle.ep_move.specs.Moving.{FailsBy, GoesOut, IsFound, IsSaid, WritesLine};
 ghost use Rattle.ep_move.specs.Told.{HasPast, IsWritten};
 
 use crate::file::{Unread, file_of};
@@ -18,7 +19,8 @@ use ep_export::{ExportBad, export};
 use ep_history::Rev;
 use ep_import::births_can_be_exported;
 use ep_outside::{Shelf, Sink};
-use ep_reread::{Reread, Untold, told_by};
+use crate::rereading::Reread;
+use crate::told::{Untold, told_by};
 use ep_units::{NoMemory, PadId};
 use std::alloc::Global;
 
@@ -89,6 +91,21 @@ fn line_in(alloc: Global, pad: &PadId, bytes: &[u8]) -> Result<Line, NoMemory>
     }
 }
 
+/// What is to be written of a pad whose file was found, or not.
+fn line_for(
+    alloc: Global,
+    pad: &PadId,
+    found: &Option<Vec<u8>>,
+) -> Result<Line, NoMemory>
+    ensures { (names : Option (List (List ℕ))) (told : Option Contents) → IsFound names told pad.now (option_map (λ bytes. bytes.items) found.now)
+        → IfOk result (λ line. IsSaid names told pad.now line.refuses (string_bytes line.text)) }
+{
+    match found {
+        Some(bytes) => line_in(alloc, pad, bytes),
+        None => refused(alloc, pad, Reason::Gone),
+    }
+}
+
 /// What is to be written of a shelf's pad.
 fn line_from<H: Shelf>(alloc: Global, shelf: &mut H, pad: &PadId) -> Result<Line, Unread>
     ensures said { IfOk result (λ line. IsSaid (H.names shelf.old) (H.told shelf.old pad.now) pad.now line.refuses (string_bytes line.text)) }
@@ -96,11 +113,11 @@ fn line_from<H: Shelf>(alloc: Global, shelf: &mut H, pad: &PadId) -> Result<Line
     ensures fault { IsErrOf result Unread.Fault → HasRisen (H.failures shelf.old) (H.failures shelf.new) ⊎ FailsBy H.D.told H.D.failures (H.told shelf.old pad.now) }
     ensures sure { H.is_steady shelf.old ≡ true → IsErrOf result Unread.Fault → ⊥ }
 {
-    let line = match file_of(alloc, shelf, pad)? {
-        Some(bytes) => line_in(alloc, pad, &bytes),
-        None => refused(alloc, pad, Reason::Gone),
-    };
-    Ok(line?)
+    let found = file_of(alloc, shelf, pad)?;
+    match line_for(alloc, pad, &found) {
+        Ok(line) => Ok(line),
+        Err(NoMemory) => Err(Unread::NoMemory),
+    }
 }
 
 /// Writes a line, and answers how moving the pad ended.

@@ -11,13 +11,14 @@ ghost use Rattle.ep_verify.specs.Files.{MayPut};
 ghost use Rattle.ep_move.specs.Moving.{ComesIn, Fails, FailsBy, IsNone, Says, SaysNone};
 ghost use Rattle.ep_move.specs.Stopped.{PutsAndSays, SaysLine, StopsBy};
 
+use crate::file::{Unread, open_disk};
 use crate::lines::{Reason, imported_line};
 use crate::moved::Moved;
 use crate::putting::put_into;
 use crate::stop::{Stop, write_stop};
 use crate::text::read_text;
 use ep_import::{History, import};
-use ep_outside::{Disk, Shelf, ShelfBad, Sink, Source};
+use ep_outside::{Disk, Shelf, Sink, Source};
 use ep_units::PadId;
 use std::alloc::Global;
 
@@ -142,10 +143,10 @@ fn put_on<K: Sink, H: Shelf>(
     ensures disk_fault { result ≡ Moved.DiskFault → HasRisen (H.failures shelf.old) (H.failures shelf.new) ⊎ FailsBy H.D.told H.D.failures (H.told shelf.old pad.now) }
     ensures disk_sure { H.is_steady shelf.old ≡ true → result ≢ Moved.DiskFault }
 {
-    match shelf.open(pad) {
+    match open_disk(shelf, pad) {
         Ok(disk) => put_and_say(alloc, sink, pad, disk, history).moved,
-        Err(ShelfBad::Failed) => Moved::DiskFault,
-        Err(ShelfBad::NoMemory) => Moved::NoMemory,
+        Err(Unread::Fault) => Moved::DiskFault,
+        Err(Unread::NoMemory) => Moved::NoMemory,
     }
 }
 

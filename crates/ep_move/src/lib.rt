@@ -7,12 +7,15 @@
 mod exporting;
 mod file;
 mod importing;
+mod last;
 mod lines;
 mod moved;
 mod moving;
 mod putting;
+mod rereading;
 mod stop;
 mod text;
+mod told;
 mod usage;
 
 pub use exporting::export_to;

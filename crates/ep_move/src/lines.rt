@@ -41,21 +41,20 @@ impl Reason {
     fn text(self, alloc: Global, pad: &PadId) -> Result<String, NoMemory>
         ensures { IfOk result (λ s. string_bytes s ≡ reason_text pad.now self) }
     {
-        let text = match self {
-            Reason::Gone => format!(in alloc; "gone"),
-            Reason::Exists => format!(in alloc; "exists"),
-            Reason::Time(n) => format!(in alloc; "time {n}"),
-            Reason::TooBig(n) => format!(in alloc; "toobig {n}"),
-            Reason::NotJson => format!(in alloc; "notjson"),
-            Reason::Shape(place) => return shape(alloc, pad, place),
-            Reason::Revision(n) => format!(in alloc; "revision {n}"),
-            Reason::Replay => format!(in alloc; "replay"),
-            Reason::TooLong(n) => format!(in alloc; "toolong {n}"),
-            Reason::Full(n) => format!(in alloc; "full {n}"),
-            Reason::Foreign => format!(in alloc; "foreign"),
-            Reason::Record(n) => format!(in alloc; "record {n}"),
-        };
-        Ok(text?)
+        match self {
+            Reason::Gone => Ok(format!(in alloc; "gone")?),
+            Reason::Exists => Ok(format!(in alloc; "exists")?),
+            Reason::Time(n) => Ok(format!(in alloc; "time {n}")?),
+            Reason::TooBig(n) => Ok(format!(in alloc; "toobig {n}")?),
+            Reason::NotJson => Ok(format!(in alloc; "notjson")?),
+            Reason::Shape(place) => shape(alloc, pad, place),
+            Reason::Revision(n) => Ok(format!(in alloc; "revision {n}")?),
+            Reason::Replay => Ok(format!(in alloc; "replay")?),
+            Reason::TooLong(n) => Ok(format!(in alloc; "toolong {n}")?),
+            Reason::Full(n) => Ok(format!(in alloc; "full {n}")?),
+            Reason::Foreign => Ok(format!(in alloc; "foreign")?),
+            Reason::Record(n) => Ok(format!(in alloc; "record {n}")?),
+        }
     }
 
     /// The line that says so.
