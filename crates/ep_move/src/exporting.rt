@@ -15,12 +15,12 @@ ghost use Rattle.ep_move.specs.Told.{HasPast, IsWritten};
 use crate::file::{Unread, file_of};
 use crate::lines::Reason;
 use crate::moved::Moved;
+use crate::rereading::Reread;
+use crate::told::{Untold, told_by};
 use ep_export::{ExportBad, export};
 use ep_history::Rev;
 use ep_import::births_can_be_exported;
 use ep_outside::{Shelf, Sink};
-use crate::rereading::Reread;
-use crate::told::{Untold, told_by};
 use ep_units::{NoMemory, PadId};
 use std::alloc::Global;
 
@@ -92,11 +92,7 @@ fn line_in(alloc: Global, pad: &PadId, bytes: &[u8]) -> Result<Line, NoMemory>
 }
 
 /// What is to be written of a pad whose file was found, or not.
-fn line_for(
-    alloc: Global,
-    pad: &PadId,
-    found: &Option<Vec<u8>>,
-) -> Result<Line, NoMemory>
+fn line_for(alloc: Global, pad: &PadId, found: &Option<Vec<u8>>) -> Result<Line, NoMemory>
     ensures { (names : Option (List (List ℕ))) (told : Option Contents) → IsFound names told pad.now (option_map (λ bytes. bytes.items) found.now)
         → IfOk result (λ line. IsSaid names told pad.now line.refuses (string_bytes line.text)) }
 {

@@ -1,4 +1,0 @@
-pub mod Births
-pub mod Following
-pub mod Fronts
-pub mod Telling
