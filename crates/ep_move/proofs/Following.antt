@@ -1,6 +1,6 @@
 -- What follows each record.
 use Rattle.std.proofs.Common.{◌≡◌, ℕ, suc, ◌≤◌, Bool, true, false, List, [], ◌∷◌, length, Option, Some, None, refl, sym, ap, ◌∙◌, subst, true≢false, arith}
-use Rattle.std.specs.Prelude.{◌↔◌, ◌&&◌, not, nat_lt, IfOk, IsNone, IsSome, IsTrue, Result, Ok, Err}
+use Rattle.std.specs.Prelude.{◌↔◌, ◌&&◌, not, nat_lt, IsNone, IsSome, IsTrue}
 use Rattle.std.proofs.lemmas.Bool.Decides.{nat_tests}
 use Rattle.ep_units.specs.Text.{Text, text_eq}
 use Rattle.ep_units.specs.declared.session.Session.{Session}
@@ -42,10 +42,6 @@ absent_told n b h = go (nat_lt 0 n) b refl h
     go true true e h = absurd (true≢false (sym h))
     go true false e h = (grind (arith, nat_tests), refl)
     go false c e h = absurd (true≢false (sym h))
-
-pub ok_then : {T E : Type 0} (r : Result T E) (P Q : T → Type 0) → IfOk r P → ((v : T) → P v → Q v) → IfOk r Q
-ok_then (Ok v) P Q h f = f v h
-ok_then (Err e) P Q h f = tt
 
 -- equal texts are one
 pub told_text : (r : Bool) (a b : Text) → r ≡ text_eq a b → (IsTrue r → a ≡ b) × (a ≡ b → IsTrue r)

@@ -45,12 +45,12 @@ stop_by_put (put_bad.Full n) = stop.Refused (reason.Full n)
 stop_by_put (put_bad.Disk n) = stop.DiskFault
 stop_by_put put_bad.NoMemory = stop.NoMemory
 
--- a reason has its cause, and so has a disk's fault
-abbrev pub StopsBy : (Reason → Type 0) → Type 0 → Stop → Type 0
-StopsBy Because disk (stop.Refused why) = Because why
-StopsBy Because disk stop.SourceFault = Unit {0}
-StopsBy Because disk stop.DiskFault = disk
-StopsBy Because disk stop.NoMemory = Unit {0}
+-- a reason has its cause, and so has the fault of a device
+abbrev pub StopsBy : (Reason → Type 0) → Type 0 → Type 0 → Stop → Type 0
+StopsBy Because source disk (stop.Refused why) = Because why
+StopsBy Because source disk stop.SourceFault = source
+StopsBy Because source disk stop.DiskFault = disk
+StopsBy Because source disk stop.NoMemory = Unit {0}
 
 -- too much was read
 abbrev pub StopsLong : Option (List ℕ) → Option (List ℕ) → Reason → Type 0

@@ -109,7 +109,10 @@ fn line_from<H: Shelf>(alloc: Global, shelf: &mut H, pad: &PadId) -> Result<Line
     ensures fault { IsErrOf result Unread.Fault → HasRisen (H.failures shelf.old) (H.failures shelf.new) ⊎ FailsBy H.D.told H.D.failures (H.told shelf.old pad.now) }
     ensures sure { H.is_steady shelf.old ≡ true → IsErrOf result Unread.Fault → ⊥ }
 {
-    let found = file_of(alloc, shelf, pad)?;
+    let found = match file_of(alloc, shelf, pad) {
+        Ok(found) => found,
+        Err(why) => return Err(why),
+    };
     match line_for(alloc, pad, &found) {
         Ok(line) => Ok(line),
         Err(NoMemory) => Err(Unread::NoMemory),

@@ -108,10 +108,15 @@ pub fn file_of<H: Shelf>(
     ensures fault { IsErrOf result Unread.Fault → HasRisen (H.failures shelf.old) (H.failures shelf.new) ⊎ FailsBy H.D.told H.D.failures (H.told shelf.old pad.now) }
     ensures sure { H.is_steady shelf.old ≡ true → IsErrOf result Unread.Fault → ⊥ }
 {
-    let names = find_names(shelf)?;
+    let names = match find_names(shelf) {
+        Ok(names) => names,
+        Err(why) => return Err(why),
+    };
     if !is_among(&names, pad) {
         return Ok(None);
     }
-    let bytes = read_file(alloc, shelf, pad)?;
-    Ok(Some(bytes))
+    match read_file(alloc, shelf, pad) {
+        Ok(bytes) => Ok(Some(bytes)),
+        Err(why) => Err(why),
+    }
 }

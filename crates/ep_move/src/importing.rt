@@ -1,6 +1,6 @@
 //! A history that comes in and is put into its pad's file.
 
-ghost use Rattle.std.specs.Prelude.{◌≡◌, ◌≢◌, ◌⊎◌, Some, Ok, true, IfErr, IfOk, IfSome, IsErrOf, IsSome, MatchOption};
+ghost use Rattle.std.specs.Prelude.{◌≡◌, ◌≢◌, ◌⊎◌, ⊤, Some, Ok, true, IfErr, IfOk, IfSome, IsErrOf, IsSome, MatchOption};
 ghost use Rattle.ep_outside.specs.Disk.{Contents};
 ghost use Rattle.ep_outside.specs.Outside.{HasCause, HasRisen, IsAtEnd};
 ghost use Rattle.ep_past.specs.Revisions.{AreRevisions};
@@ -15,7 +15,7 @@ use crate::file::{Unread, open_disk};
 use crate::lines::{Reason, imported_line};
 use crate::moved::Moved;
 use crate::putting::put_into;
-use crate::stop::{Stop, write_stop};
+use crate::stop::{Stop, stop_of_import, write_stop};
 use crate::text::read_text;
 use ep_import::{History, import};
 use ep_outside::{Disk, Shelf, Sink, Source};
@@ -33,12 +33,14 @@ pub struct Imported<D> {
 fn history_in(alloc: Global, pad: &PadId, bytes: &[u8]) -> Result<History, Stop>
     ensures says { IfOk result (λ h. Imports pad.now bytes.now (Ok (said h))) }
     ensures revisions { IfOk result (λ h. AreRevisions h.revs.items) }
-    ensures stops { IfErr result (StopsBy (IsNone pad.now bytes.now) ⊥) }
-    ensures unread { IsErrOf result Stop.SourceFault → ⊥ }
+    ensures stops { IfErr result (StopsBy (IsNone pad.now bytes.now) ⊥ ⊥) }
 {
-    match std::str::from_utf8(bytes) {
-        Ok(text) => Ok(import(alloc, pad, text)?),
-        Err(_) => Err(Stop::Refused(Reason::NotJson)),
+    let Ok(text) = std::str::from_utf8(bytes) else {
+        return Err(Stop::Refused(Reason::NotJson));
+    };
+    match import(alloc, pad, text) {
+        Ok(history) => Ok(history),
+        Err(why) => Err(stop_of_import(why)),
     }
 }
 
@@ -46,11 +48,13 @@ fn history_in(alloc: Global, pad: &PadId, bytes: &[u8]) -> Result<History, Stop>
 fn history_from<S: Source>(alloc: Global, source: &mut S, pad: &PadId) -> Result<History, Stop>
     ensures says { IfOk result (λ h. Says pad.now (S.left source.old) (S.left source.new) (said h)) }
     ensures revisions { IfOk result (λ h. AreRevisions h.revs.items) }
-    ensures stops { IfErr result (StopsBy (SaysNone pad.now (S.left source.old) (S.left source.new)) ⊥) }
+    ensures stops { IfErr result (StopsBy (SaysNone pad.now (S.left source.old) (S.left source.new)) ⊤ ⊥) }
     ensures cause { HasCause (S.failures source.old) (S.failures source.new) (S.is_steady source.old) (S.is_steady source.new) (IsErrOf result Stop.SourceFault) }
 {
-    let bytes = read_text(alloc, source)?;
-    history_in(alloc, pad, &bytes)
+    match read_text(alloc, source) {
+        Ok(bytes) => history_in(alloc, pad, &bytes),
+        Err(stop) => Err(stop),
+    }
 }
 
 /// Writes the line of a history that was put into the file of this disk.

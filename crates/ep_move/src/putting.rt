@@ -45,7 +45,7 @@ fn stop_of_put(why: PutBad) -> Stop
 /// The journal of a disk, opened.
 fn journal_on<D: Disk>(alloc: Global, disk: D) -> Result<Journal<D>, Refused<D, Stop>>
     ensures over { IfOk result (IsOver D.told D.is_steady D.failures disk) }
-    ensures stops { IfErr result (λ refused. StopsBy (λ why. (s : Said) → IsUntaken (D.told disk) s why) (Fails (D.is_steady disk) (D.failures disk) (D.failures refused.back)) refused.why) }
+    ensures stops { IfErr result (λ refused. StopsBy (λ why. (s : Said) → IsUntaken (D.told disk) s why) ⊥ (Fails (D.is_steady disk) (D.failures disk) (D.failures refused.back)) refused.why) }
 {
     match Journal::open(alloc, disk, MOST_FILE) {
         Ok(journal) => Ok(journal),
@@ -60,9 +60,12 @@ fn journal_on<D: Disk>(alloc: Global, disk: D) -> Result<Journal<D>, Refused<D, 
 pub fn put_into<D: Disk>(alloc: Global, disk: D, history: &History) -> Result<D, Refused<D, Stop>>
     requires { AreRevisions history.now.revs.items }
     ensures holds { (c : Contents) → D.told disk ≡ Some c → IfOk result (λ d. HoldsHistory (D.told d) history.now.revs.items history.now.public) }
-    ensures stops { IfErr result (λ refused. StopsBy (IsUntaken (D.told disk) (said history.now)) (Fails (D.is_steady disk) (D.failures disk) (D.failures refused.back)) refused.why) }
+    ensures stops { IfErr result (λ refused. StopsBy (IsUntaken (D.told disk) (said history.now)) ⊥ (Fails (D.is_steady disk) (D.failures disk) (D.failures refused.back)) refused.why) }
 {
-    let journal = journal_on(alloc, disk)?;
+    let journal = match journal_on(alloc, disk) {
+        Ok(journal) => journal,
+        Err(refused) => return Err(refused),
+    };
     match put(alloc, journal, &history.revs, history.public) {
         Ok(disk) => Ok(disk),
         Err(refused) => Err(Refused {

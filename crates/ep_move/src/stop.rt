@@ -2,7 +2,7 @@
 
 ghost use Rattle.std.specs.Prelude.{◌≡◌};
 ghost use Rattle.ep_outside.specs.Outside.{HasCause};
-ghost use Rattle.ep_move.specs.Stopped.{WritesStop};
+ghost use Rattle.ep_move.specs.Stopped.{WritesStop, stop_by_import};
 
 use crate::lines::Reason;
 use crate::moved::Moved;
@@ -21,21 +21,17 @@ pub enum Stop {
     NoMemory,
 }
 
-impl From<ImportBad> for Stop {
-    ghost use Rattle.std.specs.Prelude.{◌≡◌};
-    ghost use Rattle.ep_move.specs.Stopped.{stop_by_import};
-
-    ghost from_gives = { λ bad e. e ≡ stop_by_import bad };
-
-    fn from(error: ImportBad) -> Stop {
-        match error {
-            ImportBad::TooBig(bytes) => Stop::Refused(Reason::TooBig(bytes)),
-            ImportBad::NotJson => Stop::Refused(Reason::NotJson),
-            ImportBad::Shape(place) => Stop::Refused(Reason::Shape(place)),
-            ImportBad::Revision(n) => Stop::Refused(Reason::Revision(n)),
-            ImportBad::Replay => Stop::Refused(Reason::Replay),
-            ImportBad::NoMemory => Stop::NoMemory,
-        }
+/// What a refused text comes to.
+pub fn stop_of_import(why: ImportBad) -> Stop
+    ensures { result ≡ stop_by_import why }
+{
+    match why {
+        ImportBad::TooBig(bytes) => Stop::Refused(Reason::TooBig(bytes)),
+        ImportBad::NotJson => Stop::Refused(Reason::NotJson),
+        ImportBad::Shape(place) => Stop::Refused(Reason::Shape(place)),
+        ImportBad::Revision(n) => Stop::Refused(Reason::Revision(n)),
+        ImportBad::Replay => Stop::Refused(Reason::Replay),
+        ImportBad::NoMemory => Stop::NoMemory,
     }
 }
 

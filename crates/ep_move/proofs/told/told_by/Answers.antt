@@ -2,7 +2,7 @@ use Rattle.std.proofs.Common.{◌∙◌, sym}
 use Rattle.ep_history.specs.Records.{told}
 use Rattle.ep_verify.specs.Verdicts.{no_limits}
 use Rattle.ep_verify.proofs.Rereading.{journal, tells-all}
-use Rattle.ep_move.proofs.Following.{ok_then}
+use Rattle.ep_move.proofs.Causes.{ok_then}
 use Rattle.ep_move.proofs.Telling.{revisions_of, untold_result}
 use Rattle.ep_move.proofs.told.told_by.Goals as goal
 

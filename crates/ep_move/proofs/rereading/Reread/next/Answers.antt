@@ -2,7 +2,8 @@ use Rattle.std.proofs.Common.{sym, subst}
 use Rattle.ep_move.specs.Born.{IsBorn}
 use Rattle.ep_move.specs.Reread.{IsLast, IsReread, MayFollow}
 use Rattle.ep_history.specs.declared.record.Record.TheVariants as record_of
-use Rattle.ep_move.proofs.Following.{create_next, delete_next, nop_next, ok_then, open_next, public_next, rev_next}
+use Rattle.ep_move.proofs.Causes.{ok_then}
+use Rattle.ep_move.proofs.Following.{create_next, delete_next, nop_next, open_next, public_next, rev_next}
 use Rattle.ep_move.proofs.rereading.Reread.next.Goals as goal
 
 pub returns-in-Open : goal.returns-in-Open
