@@ -1,5 +1,5 @@
 -- Causes that are known as well as others.
-use Rattle.std.proofs.Common.{◌≡◌, ◌≤◌, ◌<◌, ℕ, true, arith}
+use Rattle.std.proofs.Common.{◌≡◌, ◌≤◌, ℕ, subst, arith}
 use Rattle.std.specs.Prelude.{IfErr, IfOk, Result, Ok, Err}
 use Rattle.ep_outside.specs.Outside.{HasRisen}
 
@@ -18,3 +18,6 @@ ok_then (Err e) P Q h f = tt
 pub err_then : {T E : Type 0} (r : Result T E) (P Q : E → Type 0) → IfErr r P → ((e : E) → P e → Q e) → IfErr r Q
 err_then (Ok v) P Q h f = tt
 err_then (Err e) P Q h f = f e h
+
+pub err_of : {T E : Type 0} (r : Result T E) (x : E) (P : E → Type 0) → IfErr r P → r ≡ Err x → P x
+err_of r x P h e = subst (λ q. IfErr q P) e h

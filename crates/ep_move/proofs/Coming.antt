@@ -54,7 +54,7 @@ long_none id old new stop.NoMemory h = tt
 
 pub short_none : (id : Text) (old new : Option (List ℕ)) (bytes : List ℕ) (s : Stop) → IsWhole old new bytes → StopsBy (IsNone id bytes) ⊥ ⊥ s → StopsBy (SaysNone id old new) ⊤ ⊥ s
 short_none id old new bytes (stop.Refused why) w h = Short bytes why w h
-short_none id old new bytes stop.SourceFault w h = tt
+short_none id old new bytes stop.SourceFault w h = absurd h
 short_none id old new bytes stop.DiskFault w h = h
 short_none id old new bytes stop.NoMemory w h = tt
 
