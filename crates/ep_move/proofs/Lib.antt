@@ -6,5 +6,5 @@ pub mod Telling
 pub mod Naming
 pub mod Writing
 pub mod Coming
-pub mod Putting
+pub mod Untaken
 pub mod Reading

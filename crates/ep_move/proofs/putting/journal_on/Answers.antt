@@ -2,7 +2,7 @@ use Rattle.std.proofs.Common.{sym, subst}
 use Rattle.ep_import.specs.Imported.{Said}
 use Rattle.ep_move.specs.Moving.{Fails, IsUntaken}
 use Rattle.ep_move.specs.Stopped.{StopsBy}
-use Rattle.ep_move.proofs.Putting.{unopened}
+use Rattle.ep_move.proofs.Untaken.{unopened}
 use Rattle.ep_move.proofs.putting.journal_on.Goals as goal
 
 pub returns-in-Err-clause-stops : goal.returns-in-Err-clause-stops

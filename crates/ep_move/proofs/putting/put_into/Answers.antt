@@ -5,7 +5,7 @@ use Rattle.ep_journal.specs.File.{stands_for}
 use Rattle.ep_put.specs.Putting.{HoldsHistory}
 use Rattle.ep_move.specs.Moving.{Fails, IsUntaken}
 use Rattle.ep_move.specs.Stopped.{StopsBy}
-use Rattle.ep_move.proofs.Putting.{stops_said, told_some, unput}
+use Rattle.ep_move.proofs.Untaken.{stops_said, told_some, unput}
 use Rattle.ep_move.proofs.putting.put_into.Goals as goal
 
 pub returns-in-Err-clause-stops : goal.returns-in-Err-clause-stops
