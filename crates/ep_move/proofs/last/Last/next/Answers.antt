@@ -1,4 +1,4 @@
-use Rattle.std.proofs.Common.{T, Option, refl, sym, ap, ◌∙◌, ◌++◌, subst}
+use Rattle.std.proofs.Common.{◌≡◌, T, Option, refl, sym, ap, ◌∙◌, ◌++◌, subst}
 use Rattle.std.specs.Prelude.{IsSome}
 use Rattle.ep_cs.specs.Fits.{Fits}
 use Rattle.ep_history.specs.History.{By, head_doc, made, step_revs}
