@@ -3,7 +3,7 @@ use Rattle.std.proofs.Common.{◌≡◌, ℕ, ◌≤◌, ◌-◌, Bool, true, fa
 use Rattle.std.specs.Prelude.{⊤, IsUtf8, Result, Ok, Err}
 use Rattle.ep_units.specs.Text.{Text}
 use Rattle.ep_outside.specs.Disk.{Contents}
-use Rattle.ep_outside.specs.Outside.{IsWhole}
+use Rattle.ep_outside.specs.Outside.{IsWhole, Takes, TakesPart}
 use Rattle.ep_import.specs.Answer.{Answers}
 use Rattle.ep_import.specs.Imported.{Imports, Said}
 use Rattle.ep_import.specs.Seen.{said}
@@ -15,7 +15,7 @@ use Rattle.ep_move.specs.Moving.{ComesIn, IsNone, IsRefused, IsUntaken, Says, Sa
 use Rattle.ep_move.specs.Moving.IsNone.{NoHistory, NoText}
 use Rattle.ep_move.specs.Moving.IsRefused.{ByFile, ByText}
 use Rattle.ep_move.specs.Moving.SaysNone.{Long, Short}
-use Rattle.ep_move.specs.Stopped.{PutsAndSays, StopsBy, StopsLong, WritesStop, stop_by_import}
+use Rattle.ep_move.specs.Stopped.{PutsAndSays, SaysLine, StopsBy, StopsLong, WritesStop, stop_by_import}
 use Rattle.ep_move.specs.Text.{IsCut, most_read}
 use Rattle.ep_move.specs.declared.lines.Reason.{Reason}
 use Rattle.ep_move.specs.declared.lines.Reason.TheVariants as reason
@@ -136,3 +136,13 @@ puts_of id told s held now stop.NoMemory moved.SinkFault disk h w = absurd w
 puts_of id told s held now stop.NoMemory moved.SourceFault disk h w = absurd w
 puts_of id told s held now stop.NoMemory moved.All disk h w = absurd w
 puts_of id told s held now stop.NoMemory moved.DiskFault disk h w = absurd w
+
+-- the line of a history that was put
+pub said_puts : (id : Text) (told : Option Contents) (s : Said) (held now : Option (List ℕ)) (line : List ℕ) (end : Moved) → line ≡ imported (length s.revs - 1) → SaysLine line held now end
+    → PutsAndSays id told s held now end
+said_puts id told s held now line moved.All is w = subst (λ (l : List ℕ). Takes held now l) is w
+said_puts id told s held now line moved.SinkFault is w = inl (subst (λ (l : List ℕ). TakesPart held now l) is w)
+said_puts id told s held now line moved.Refused is w = absurd w
+said_puts id told s held now line moved.SourceFault is w = absurd w
+said_puts id told s held now line moved.DiskFault is w = absurd w
+said_puts id told s held now line moved.NoMemory is w = absurd w

@@ -9,7 +9,7 @@ use Rattle.ep_move.proofs.exporting.line_on.Goals as goal
 
 pub returns-in-Some : goal.returns-in-Some
 returns-in-Some c = λ file p t h.
-    c.line_of.ensures file (subst (λ vs. HasPast file vs c.args.told.now.public) (sym c.deref.ensures.value) (has_past file p c.args.told.now c.in-Some.last.now t h c.in-Some.is))
+    c.line_of.ensures file (subst (λ vs. HasPast file vs c.args.told.now.public) (sym c.deref.ensures.value) (has_past file p c.args.told.now c.in-Some.last t h c.in-Some.is))
 
 pub returns-in-None : goal.returns-in-None
 returns-in-None c = λ file p t h.
