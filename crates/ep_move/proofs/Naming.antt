@@ -15,11 +15,11 @@ record Splits (names : List (List ℕ)) (id : Text) : Type 0 where
 
 split : (names : List (List ℕ)) (id : Text) → is_among names id ≡ true → Splits names id
 split [] id h = absurd (true≢false (sym h))
-split (name ∷ names) id h = go (bytes_eq name id) refl h
+split (name ∷ names) id h = go (bytes_eq name id) refl (split names id) h
   where
-    go : (b : Bool) → bytes_eq name id ≡ b → (b || is_among names id) ≡ true → Splits (name ∷ names) id
-    go true e h = record { before = []; others = names; whole = ap (λ (n : List ℕ). n ∷ names) (sym ((bytes_eq-Decides name id).0 e)) }
-    go false e h = let s = split names id h in record { before = name ∷ s.before; others = s.others; whole = ap (λ (l : List (List ℕ)). name ∷ l) s.whole }
+    go : (b : Bool) → bytes_eq name id ≡ b → (is_among names id ≡ true → Splits names id) → (b || is_among names id) ≡ true → Splits (name ∷ names) id
+    go true e later h = record { before = []; others = names; whole = ap (λ (n : List ℕ). n ∷ names) (sym ((bytes_eq-Decides name id).0 e)) }
+    go false e later h = let s = later h in record { before = name ∷ s.before; others = s.others; whole = ap (λ (l : List (List ℕ)). name ∷ l) s.whole }
 
 -- a name that is there already puts no other there
 pub stays : (told : Option (List (List ℕ))) (found : List (List ℕ)) (id : Text) → AreTold told found → IsTrue (rises found) → is_among found id ≡ true

@@ -1,5 +1,6 @@
 -- What is written of a pad's file.
-use Rattle.std.proofs.Common.{◌≡◌, ℕ, Bool, true, false, List, Option, Some, None, refl, sym, ap, ◌∙◌, subst}
+use Rattle.std.proofs.Common.{◌≡◌, ℕ, Bool, true, false, List, Option, Some, None, Vec, Global, refl, sym, ap, ◌∙◌, subst}
+use Rattle.std.specs.Prelude.{option_map}
 use Rattle.serde_json.specs.Written.{compact_text}
 use Rattle.ep_units.specs.Text.{Text}
 use Rattle.ep_outside.specs.Disk.{Contents}
@@ -9,7 +10,7 @@ use Rattle.ep_export.specs.Exported.{exported, late}
 use Rattle.ep_verify.specs.Files.{IsFile}
 use Rattle.ep_verify.specs.Verdicts.{Tells}
 use Rattle.ep_move.specs.Lines.{line, refusal}
-use Rattle.ep_move.specs.Moving.{GoesOut, IsSaid, WritesLine}
+use Rattle.ep_move.specs.Moving.{GoesOut, IsFound, IsSaid, IsUnnamed, WritesLine}
 use Rattle.ep_move.specs.Moving.IsSaid.{NoFile, OfFile}
 use Rattle.ep_move.specs.Reread.{IsLast, IsReread}
 use Rattle.ep_move.specs.Told.{HasPast, IsGone, IsUnexported, IsWritten}
@@ -38,6 +39,23 @@ has_past file p k l t h is =
 
 pub is_gone : (file : List ℕ) (p : PadState) (k : Reread) → Tells file p → IsReread k p → k.last ≡ None → IsGone file
 is_gone file p k t h is = (p, t, subst (λ (o : Option Last). IsLast o p) is h.last)
+
+-- ---- a file that was found, or not
+
+abbrev bytes_of : Option (Vec ℕ Global) → Option (List ℕ)
+bytes_of found = option_map (λ bytes. bytes.items) found
+
+pub file_found : (names : Option (List (List ℕ))) (told : Option Contents) (id : Text) (found : Option (Vec ℕ Global)) (bytes : Vec ℕ Global) → found ≡ Some bytes
+    → IsFound names told id (bytes_of found) → IsFile told bytes.items
+file_found names told id found bytes is h = subst (λ (o : Option (Vec ℕ Global)). IsFound names told id (bytes_of o)) is h
+
+pub none_found : (names : Option (List (List ℕ))) (told : Option Contents) (id : Text) (found : Option (Vec ℕ Global)) → found ≡ None → IsFound names told id (bytes_of found) → IsUnnamed names id
+none_found names told id found is h = subst (λ (o : Option (Vec ℕ Global)). IsFound names told id (bytes_of o)) is h
+
+pub no_file : (names : Option (List (List ℕ))) (told : Option Contents) (id : Text) (refuses : Bool) (out : List ℕ) → refuses ≡ true → out ≡ refusal id reason.Gone → IsUnnamed names id
+    → IsSaid names told id refuses out
+no_file names told id refuses out r o h =
+    subst (λ (b : Bool). IsSaid names told id b out) (sym r) (subst (λ (x : List ℕ). IsSaid names told id true x) (sym o) (NoFile h))
 
 -- a line that is written of what was said of a pad
 pub goes_out : (names : Option (List (List ℕ))) (told : Option Contents) (id : Text) (held now : Option (List ℕ)) (refuses : Bool) (out : List ℕ) (end : Moved) → IsSaid names told id refuses out

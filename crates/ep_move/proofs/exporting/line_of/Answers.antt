@@ -1,3 +1,5 @@
+use Rattle.std.proofs.Common.{ap}
+use Rattle.std.specs.Prelude.{Err}
 use Rattle.std.specs.String.{string_bytes}
 use Rattle.ep_move.specs.Told.IsUnexported.{Late}
 use Rattle.ep_move.proofs.Causes.{ok_then}
@@ -19,5 +21,6 @@ returns-in-Ok c = λ file h.
 pub returns-in-Err-Time : goal.returns-in-Err-Time
 returns-in-Err-Time c = λ file h.
     let n = c.in-Err-Time.n in
+    let late = (c.in-Err-Time.ensures.time n).0 (ap (λ b. Err b) c.in-Err-Time.field-0-is) in
     ok_then c.refused.result _ _ c.refused.ensures (λ line x.
-    is_refused c.args.pad.now file (reason.Time n) line.refuses (string_bytes line.text) x.0 x.1 (Late c.args.revs.now c.args.public n h ?))
+    is_refused c.args.pad.now file (reason.Time n) line.refuses (string_bytes line.text) x.0 x.1 (Late c.args.revs.now c.args.public n h late))

@@ -31,5 +31,5 @@ returns-in_ok-push-in-Some c = λ p h.
     let e = c.into_revs-revised.ensures.revs c.args.change.edit old.doc is ∙ ap (λ doc. step_revs by c.args.change.edit doc) h.doc in
     let x = c.in_ok-step.ensures.next p c.args.session c.args.time c.args.author h.doc h.present in (
       x.0 (subst (λ (o : Option Step). IsSome o) (sym c.in-Some.is) refl),
-      there_longer old c.push.new.self p vs h (c.in_ok-push.ensures.revs ∙ ap (λ us. old.revs.items ++ us) e) (c.in_ok-push.ensures.doc ∙ ap (made old.doc) e),
+      there_longer old c.push.new.self p vs h (c.in_ok-push-in-Some.ensures.revs ∙ ap (λ us. old.revs.items ++ us) e) (c.in_ok-push-in-Some.ensures.doc ∙ ap (made old.doc) e),
     )
