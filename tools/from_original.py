@@ -18,6 +18,9 @@ import sys
 PLAIN = re.compile(r"Z:1>[0-9a-z]+(\|[0-9a-z]+\+[0-9a-z]+)?(\+[0-9a-z]+)?\$")
 GREATEST = 2**53 - 1
 
+# the members of a pad that come along, are said by name, or hold nothing that a pad shows
+KNOWN = ("atext", "chatHead", "head", "passwordHash", "pool", "publicStatus", "savedRevisions")
+
 
 class NoPad(Exception):
     """Why a file isn't one of one pad."""
@@ -96,6 +99,11 @@ def others(value, old, top, lost):
         lost.append("saved revisions: %d" % len(top["savedRevisions"]))
     if top.get("passwordHash"):
         lost.append("the password")
+    known = (*kinds.values(), "pad:%s:revs:" % old)
+    rest = [key for key in value if not key.startswith(known) and key != "pad:" + old]
+    rest += [name for name in top if name not in KNOWN]
+    if rest:
+        lost.append("what this tool doesn't know: %s" % ", ".join(sorted(rest)))
 
 
 def main():

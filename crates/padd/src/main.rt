@@ -1,8 +1,12 @@
 //! `padd`, the server of a collaborative pad.
 //!
-//! All that the program does is `run`, over the real devices that its words speak of; `ep_real` opens these.
+//! Words that ask for a pad to be moved are `move_pad`'s. All else that the program does is `run`, over the real devices
+//! that its words speak of; `ep_real` opens these.
 #![tactic(auto)]
 
+mod moving;
+
+use crate::moving::answered;
 use ep_doors::start_all;
 use ep_real::{Beside, Missing, RealDoors, begin, run_begun};
 use std::io::{ErrorKind, IsTerminal};
@@ -23,7 +27,7 @@ fn given_words(rt: &HostRuntime) -> io::Result<Vec<String>> {
 }
 
 /// Says what is missing, in one line.
-fn lacking(rt: &HostRuntime, missing: Missing) -> ExitCode {
+pub(crate) fn lacking(rt: &HostRuntime, missing: Missing) -> ExitCode {
     let _told = eprintln!(rt; "padd: {missing}");
     ExitCode::from(missing.status())
 }
@@ -32,6 +36,9 @@ fn main(rt: HostRuntime) -> ExitCode {
     let Ok(words) = given_words(&rt) else {
         return ExitCode::from(7);
     };
+    if let Some(code) = answered(rt, &words) {
+        return code;
+    }
     let (
         begun,
         Beside {

@@ -1,0 +1,10 @@
+pub mod Causes
+pub mod Births
+pub mod Following
+pub mod Fronts
+pub mod Telling
+pub mod Naming
+pub mod Writing
+pub mod Coming
+pub mod Untaken
+pub mod Reading

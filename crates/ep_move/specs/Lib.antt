@@ -1,0 +1,8 @@
+pub mod Text
+pub mod Lines
+pub mod Reread
+pub mod Born
+pub mod Untold
+pub mod Told
+pub mod Moving
+pub mod Stopped
