@@ -2,6 +2,7 @@
 
 ghost use Rattle.std.specs.Prelude.{◌≡◌, IfOk};
 ghost use Rattle.ep_journal.specs.Journal.{IsReady};
+ghost use Rattle.ep_past.specs.Revisions.{AreRevisions};
 
 use anyhow::{Result, anyhow};
 use ep_disk_mem::MemDisk;
@@ -61,7 +62,9 @@ fn count(alloc: Global, disk: MemDisk) -> Result<usize> {
     Ok(scan(alloc, &bytes)?.map_or(0, |records| records.len()))
 }
 
-fn said(alloc: Global, row: &Value, history: History) -> Result<String> {
+fn said(alloc: Global, row: &Value, history: History) -> Result<String>
+    requires { AreRevisions history.revs.items }
+{
     let mut journal = journal(alloc, row)?;
     if let Some(calls) = row.get("calls").and_then(Value::as_u64) {
         journal.stop_after(calls, image(alloc, row)?);
