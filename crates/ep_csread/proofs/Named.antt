@@ -99,10 +99,6 @@ at_any_default [] i d e h = absurd (omega arith)
 at_any_default (n ∷ ns) zero d e h = refl
 at_any_default (n ∷ ns) (suc i) d e h = at_any_default ns i d e (omega arith)
 
-pub made_length : (pool : List Pair) (ops : List WrittenOp) → length (all_resolved pool (op_views ops)) ≡ length ops
-made_length pool [] = refl
-made_length pool (o ∷ ops) = ap suc (made_length pool ops)
-
 pub made_at : (pool : List Pair) (ops : List WrittenOp) (j : ℕ) (o : WrittenOp) (m : Op) → j < length ops
     → get_or (all_resolved pool (op_views ops)) j m ≡ resolved pool (said (op_view (get_or ops j o)))
 made_at pool [] j o m h = absurd (omega arith)
@@ -111,18 +107,8 @@ made_at pool (p ∷ ops) (suc j) o m h = made_at pool ops j o m (omega arith)
 
 -- operations of one kind with the same numbers have one map
 pub shared_map : (pool : List Pair) (ops : List WrittenOp) (made : List Op) (j : ℕ) (o : WrittenOp) (m : Op)
-    → made ≡ all_resolved pool (op_views ops) → j < length ops → m ≡ get_or made j m → (get_or ops j o).kind ≡ o.kind → values (get_or ops j o).stars.items ≡ values o.stars.items
-    → m.attrs ≡ map_for o.kind (map_from pool none (values o.stars.items))
-shared_map pool ops made j o m all h e kind stars =
-    ap (λ (x : Op). x.attrs) (e ∙ ap (λ (xs : List Op). get_or xs j m) all ∙ made_at pool ops j o m h)
+    → made ≡ all_resolved pool (op_views ops) → j < length ops → (get_or ops j o).kind ≡ o.kind → values (get_or ops j o).stars.items ≡ values o.stars.items
+    → (get_or made j m).attrs ≡ map_for o.kind (map_from pool none (values o.stars.items))
+shared_map pool ops made j o m all h kind stars =
+    ap (λ (x : Op). x.attrs) (ap (λ (xs : List Op). get_or xs j m) all ∙ made_at pool ops j o m h)
     ∙ ap₂ (λ (k : Kind) (ns : List ℕ). map_for k (map_from pool none ns)) kind stars
-
-values_more : (ns : List Number) (i : ℕ) (n : Number) → i < length ns → n ≡ get_or ns i n → values (take (i + 1) ns) ≡ values (take i ns) ++ n.value ∷ []
-values_more ns i n h e =
-    ap values (take_more ns i n h ∙ ap (λ (x : Number). take i ns ++ x ∷ []) (sym e)) ∙ map_push (λ (n : Number). n.value) (take i ns) n
-
--- lists with the same values so far, after one more
-pub same_more : (a b : List Number) (i : ℕ) (x y : Number) → i < length a → i < length b → x ≡ get_or a i x → y ≡ get_or b i y → x.value ≡ y.value
-    → values (take i a) ≡ values (take i b) → values (take (i + 1) a) ≡ values (take (i + 1) b)
-same_more a b i x y h k e f same so_far =
-    values_more a i x h e ∙ ap₂ (λ (ns : List ℕ) (n : ℕ). ns ++ n ∷ []) so_far same ∙ sym (values_more b i y k f)
