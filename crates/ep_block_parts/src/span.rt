@@ -43,6 +43,7 @@ pub fn add_span(
 }
 
 /// The map again: that of one of the last stretches where it is equal, which both share then.
+#[tactic(auto, using(ep_attr::proofs::SameMap::exact_map))]
 fn shared_map(alloc: Global, spans: &[Span], attrs: &AttrMap) -> Result<AttrMap, NoMemory>
     ensures { IfOk result (λ m. m ≡ attrs.now) }
 {
