@@ -8,7 +8,7 @@ use ep_units::NoMemory;
 use std::alloc::Global;
 
 /// How many of the last stretches are looked at for an equal map.
-const NEAR: usize = 8;
+const NEAR: usize = 4;
 
 /// So many units with one map.
 #[derive(Drop)]
