@@ -1,11 +1,14 @@
 //! Stretches of units with one map each.
 
-ghost use Rattle.std.specs.Prelude.{◌≡◌, ◌<◌, ◌^◌, ◌+◌, ◌++◌, ◌∷◌, [], OnOk};
+ghost use Rattle.std.specs.Prelude.{◌≡◌, ◌<◌, ◌^◌, ◌+◌, ◌++◌, ◌∷◌, [], IfOk, OnOk};
 ghost use Rattle.ep_block_parts.specs.Spans.{Adds, all_units, first_units};
 
 use ep_attr::AttrMap;
 use ep_units::NoMemory;
 use std::alloc::Global;
+
+/// How many of the last stretches are looked at for an equal map.
+const NEAR: usize = 4;
 
 /// So many units with one map.
 #[derive(Drop)]
@@ -39,6 +42,19 @@ pub fn add_span(
     Ok(())
 }
 
+/// The map again: that of one of the last stretches where it is equal, which both share then.
+#[tactic(auto, using(ep_attr::proofs::SameMap::exact_map))]
+fn shared_map(alloc: Global, spans: &[Span], attrs: &AttrMap) -> Result<AttrMap, NoMemory>
+    ensures { IfOk result (λ m. m ≡ attrs.now) }
+{
+    for i in spans.len().saturating_sub(NEAR)..spans.len() {
+        if spans[i].attrs == *attrs {
+            return spans[i].attrs.copy(alloc);
+        }
+    }
+    attrs.copy(alloc)
+}
+
 /// Adds a stretch, to the last one where both have one map.
 pub fn join_span(
     alloc: Global,
@@ -55,5 +71,6 @@ pub fn join_span(
             return Ok(());
         }
     }
-    add_span(alloc, spans, units, attrs)
+    let attrs = shared_map(alloc, spans, attrs)?;
+    add_span(alloc, spans, units, &attrs)
 }

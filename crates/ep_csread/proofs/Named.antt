@@ -1,16 +1,18 @@
 -- The map of written numbers.
-use Rattle.std.proofs.Common.{◌≡◌, ℕ, zero, suc, ◌+◌, ◌<◌, Bool, true, false, cond, List, [], ◌∷◌, ◌++◌, map, length, take, drop, get_or, Option, Some, None, nat_lt, refl, sym, ap, ◌∙◌, arith}
+use Rattle.std.proofs.Common.{◌≡◌, ℕ, zero, suc, ◌+◌, ◌<◌, Bool, true, false, cond, List, [], ◌∷◌, ◌++◌, map, length, take, drop, get_or, Option, Some, None, nat_lt, refl, sym, ap, ap₂, ◌∙◌, arith}
 use Rattle.std.specs.List.{slice_get}
 use Rattle.std.proofs.lemmas.List.{drop_more, take_more, map_push}
 use Rattle.std.proofs.lemmas.Bool.Decides.{nat_tests}
 use Rattle.std.specs.List.{flat_map}
 use Rattle.ep_attr.specs.AttrMap.{AttrMap, Pair, none, insert, with_pairs, of_pairs}
+use Rattle.ep_cs.specs.declared.op.Kind.{Kind}
+use Rattle.ep_cs.specs.declared.op.Op.{Op}
 use Rattle.ep_csread.specs.declared.written.WrittenOp.{WrittenOp}
 use Rattle.ep_csread.specs.Syntax.{Operation}
 use Rattle.ep_csread.specs.Spelling.{said}
 use Rattle.ep_csread.proofs.First.{next_op}
 use Rattle.ep_csread.specs.declared.written.Number.{Number}
-use Rattle.ep_csread.specs.Reading.{first_such, is_big, op_numbers, all_resolved, resolved, map_from, pair_at, with_pair, values}
+use Rattle.ep_csread.specs.Reading.{first_such, is_big, op_numbers, all_resolved, resolved, map_for, map_from, pair_at, with_pair, values}
 use Rattle.ep_csread.specs.Views.{op_view, op_views}
 
 pub slice_get-pair_at : (ps : List Pair) (n : ℕ) → slice_get ps n ≡ pair_at ps n
@@ -96,3 +98,17 @@ pub at_any_default : (ns : List Number) (i : ℕ) (d e : Number) → i < length 
 at_any_default [] i d e h = absurd (omega arith)
 at_any_default (n ∷ ns) zero d e h = refl
 at_any_default (n ∷ ns) (suc i) d e h = at_any_default ns i d e (omega arith)
+
+pub made_at : (pool : List Pair) (ops : List WrittenOp) (j : ℕ) (o : WrittenOp) (m : Op) → j < length ops
+    → get_or (all_resolved pool (op_views ops)) j m ≡ resolved pool (said (op_view (get_or ops j o)))
+made_at pool [] j o m h = absurd (omega arith)
+made_at pool (p ∷ ops) zero o m h = refl
+made_at pool (p ∷ ops) (suc j) o m h = made_at pool ops j o m (omega arith)
+
+-- operations of one kind with the same numbers have one map
+pub shared_map : (pool : List Pair) (ops : List WrittenOp) (made : List Op) (j : ℕ) (o : WrittenOp) (m : Op)
+    → made ≡ all_resolved pool (op_views ops) → j < length ops → (get_or ops j o).kind ≡ o.kind → values (get_or ops j o).stars.items ≡ values o.stars.items
+    → (get_or made j m).attrs ≡ map_for o.kind (map_from pool none (values o.stars.items))
+shared_map pool ops made j o m all h kind stars =
+    ap (λ (x : Op). x.attrs) (ap (λ (xs : List Op). get_or xs j m) all ∙ made_at pool ops j o m h)
+    ∙ ap₂ (λ (k : Kind) (ns : List ℕ). map_for k (map_from pool none ns)) kind stars

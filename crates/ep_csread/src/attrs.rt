@@ -1,6 +1,6 @@
 //! The operations that a text names, with their maps from a pool.
 
-ghost use Rattle.std.specs.Prelude.{◌≡◌, map, None, IfOk};
+ghost use Rattle.std.specs.Prelude.{◌≡◌, ◌<◌, true, slice_index_or, length, map, None, IfOk, IfSome};
 ghost use Rattle.ep_attr.specs.AttrMap.{none, of_pairs};
 ghost use Rattle.ep_attr.specs.Attrs.{pairs_of};
 ghost use Rattle.std.specs.List.{flat_map};
@@ -16,27 +16,38 @@ use ep_units::NoMemory;
 use std::alloc::Global;
 use std::slice;
 
-/// The operations, whose numbers the pool has.
+/// How many of the operations before one are looked at for its map.
+const NEAR: usize = 8;
+
+/// The operations, whose numbers the pool has. Those near to each other share their maps where these are equal.
 pub fn resolved(alloc: Global, pool: &Pool, ops: &[WrittenOp]) -> Result<Vec<Op>, NoMemory>
     requires { first_such is_big (flat_map op_numbers (op_views ops.now)) ≡ None }
     ensures { IfOk result (λ made. made.items ≡ all_resolved pool.now.pairs (op_views ops.now)) }
 {
     let mut made = Vec::with_capacity(alloc, ops.len())?;
-    for op in ops {
-        made.push(resolved_op(alloc, pool, op)?)?;
+    for i in 0..ops.len() {
+        let op = resolved_op(alloc, pool, &ops[i], &ops[..i], &made)?;
+        made.push(op)?;
     }
     Ok(made)
 }
 
+/// The operation, which shares its map with one like it among those before, where there is one near.
 #[tactic(auto, using(crate::proofs::Named::small_op))]
-fn resolved_op(alloc: Global, pool: &Pool, op: &WrittenOp) -> Result<Op, NoMemory>
-    requires { first_such is_big (op_numbers (op_view op.now)) ≡ None }
+fn resolved_op(
+    alloc: Global,
+    pool: &Pool,
+    op: &WrittenOp,
+    before: &[WrittenOp],
+    made: &[Op],
+) -> Result<Op, NoMemory>
+    requires small { first_such is_big (op_numbers (op_view op.now)) ≡ None }
+    requires made { made.now ≡ all_resolved pool.now.pairs (op_views before.now) }
     ensures { IfOk result (λ o. o ≡ resolved pool.now.pairs (said (op_view op.now))) }
 {
-    let attrs = match op.kind {
-        Kind::Keep => named(alloc, pool, &op.stars)?,
-        Kind::Drop => AttrMap::none(alloc),
-        Kind::Insert => without_empty(alloc, named(alloc, pool, &op.stars)?)?,
+    let attrs = match alike(op, before) {
+        Some(j) => made[j].attrs.copy(alloc)?,
+        None => new_map(alloc, pool, op)?,
     };
     Ok(Op {
         kind: op.kind,
@@ -44,6 +55,61 @@ fn resolved_op(alloc: Global, pool: &Pool, op: &WrittenOp) -> Result<Op, NoMemor
         lines: op.lines.value as u32,
         attrs,
     })
+}
+
+/// The place of an operation with the same map, where one of the last has it.
+fn alike(op: &WrittenOp, before: &[WrittenOp]) -> Option<usize>
+    ensures inside { IfSome result (λ j. j < length before.now) }
+    ensures kind { IfSome result (λ j. (slice_index_or before.now j op.now).kind ≡ op.now.kind) }
+    ensures stars { IfSome result (λ j. values (slice_index_or before.now j op.now).stars.items ≡ values op.now.stars.items) }
+{
+    if op.stars.is_empty() {
+        return None;
+    }
+    for j in before.len().saturating_sub(NEAR)..before.len() {
+        if has_same_map(&before[j], op) {
+            return Some(j);
+        }
+    }
+    None
+}
+
+/// Whether both keep or both insert, with the same numbers.
+fn has_same_map(a: &WrittenOp, b: &WrittenOp) -> bool
+    ensures kind { result ≡ true → a.now.kind ≡ b.now.kind }
+    ensures stars { result ≡ true → values a.now.stars.items ≡ values b.now.stars.items }
+{
+    match (a.kind, b.kind) {
+        (Kind::Keep, Kind::Keep) | (Kind::Insert, Kind::Insert) => same_values(&a.stars, &b.stars),
+        _ => false,
+    }
+}
+
+/// Whether the numbers have the same values.
+fn same_values(a: &[Number], b: &[Number]) -> bool
+    ensures { result ≡ true → values a.now ≡ values b.now }
+{
+    if a.len() != b.len() {
+        return false;
+    }
+    for i in 0..a.len() {
+        if a[i].value != b[i].value {
+            return false;
+        }
+    }
+    true
+}
+
+/// The map of the operation, which is made.
+fn new_map(alloc: Global, pool: &Pool, op: &WrittenOp) -> Result<AttrMap, NoMemory>
+    requires { first_such is_big op.now.stars.items ≡ None }
+    ensures { IfOk result (λ m. m ≡ map_for op.now.kind (map_from pool.now.pairs none (values op.now.stars.items))) }
+{
+    match op.kind {
+        Kind::Keep => named(alloc, pool, &op.stars),
+        Kind::Drop => Ok(AttrMap::none(alloc)),
+        Kind::Insert => without_empty(alloc, named(alloc, pool, &op.stars)?),
+    }
 }
 
 /// The map of the attributes with these numbers, the later value counting.
