@@ -6,7 +6,7 @@ use Rattle.ep_outside.specs.Disk.{Contents}
 use Rattle.ep_outside.specs.Shelf.{IsAmong}
 use Rattle.ep_pad.specs.declared.wanted.Wanted.{Wanted}
 use Rattle.ep_pad.specs.declared.pass_bad.PassBad.TheVariants as bad
-use Rattle.ep_house.specs.Register.{Comes, Keeps, MayOpen, Places, Register, Step, StaysIn, StillWaits, Waits, found_in, in_cell, on_disk, without}
+use Rattle.ep_house.specs.Register.{Comes, Keeps, MayOpen, Places, Register, Step, StaysIn, Waits, found_in, in_cell, on_disk, without}
 use Rattle.ep_pad.specs.Halls.{Answer}
 
 -- a disk may have any cell
@@ -15,7 +15,7 @@ anywhere s t name c d (Ok id) p = (p.0, p.1, p.2, p.3, tt)
 anywhere s t name c d (Err (bad.Pads n)) p = p
 anywhere s t name c d (Err (bad.Shelf n)) p = p
 anywhere s t name c d (Err bad.Absent) p = p
-anywhere s t name c d (Err bad.NoMemory) p = (p.0, p.1, p.2, (p.3.0, p.3.1, tt))
+anywhere s t name c d (Err bad.NoMemory) p = (p.0, p.1, p.2, (p.3.0, p.3.1, subst (StaysIn (on_disk d)) (sym p.3.2) tt))
 
 module _ {H D : Type 0} (failed : H → ℕ) (names : H → Option (List (List ℕ))) (told : H → List ℕ → Option Contents) (disk_failed : D → ℕ) (disk_told : D → Option Contents) where
   keeps_on : (s r t : Register H D) (m : Wanted) → Keeps failed names told s r m → t.limit ≡ r.limit → t.shelf ≡ r.shelf → Keeps failed names told s t m
@@ -25,10 +25,6 @@ module _ {H D : Type 0} (failed : H → ℕ) (names : H → Option (List (List �
     others = λ other differs. ap (λ (h : H). told h other) shelf ∙ k.others other differs;
     spares = λ makes. subst (λ (h : H). (names h ≡ names s.shelf) ⊎ IsAmong (names s.shelf) m.name true) (sym shelf) (k.spares makes);
   }
-
-  still_waits : (o : Option (Waits D)) (shelf : H) (name : List ℕ) (w x : Waits D) → Comes told disk_failed disk_told o shelf name w → StaysIn w x → StillWaits o x
-  still_waits None shelf name w x comes stays = tt
-  still_waits (Some old) shelf name w x comes stays = subst (λ v. StaysIn v x) comes stays
 
   step_here : (s r t : Register H D) (m : Wanted) (w : Waits D) (a : Answer) → MayOpen s m.name → Keeps failed names told s r m → r.cells ≡ s.cells → r.waiting ≡ without s.waiting m.name
       → Comes told disk_failed disk_told (found_in s.waiting m.name) s.shelf m.name w → Places r m.name w a t → Step failed names told disk_failed disk_told s m a t
@@ -48,7 +44,7 @@ module _ {H D : Type 0} (failed : H → ℕ) (names : H → Option (List (List �
     room = λ shut. may.room;
     keeps = keeps_on s r t m keeps p.0 p.1;
     cells = p.2 ∙ cells;
-    waiting = inr (p.3.0, p.3.1 ∙ ap (λ l. l ++ (m.name, p.3.0) ∷ []) taken, still_waits (found_in s.waiting m.name) s.shelf m.name w p.3.0 comes p.3.2);
+    waiting = inr (w, p.3.0, comes, p.3.1 ∙ ap (λ l. l ++ (m.name, p.3.0) ∷ []) taken, p.3.2);
   }
 
   -- what came for a name got its place

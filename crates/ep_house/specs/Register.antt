@@ -42,15 +42,11 @@ abbrev pub IsIn : {D : Type 0} → Waits D → TableId → Type 0
 IsIn (on_disk d) id = Unit {0}
 IsIn (in_cell c) id = id ≡ c
 
--- a pad that waits in a cell goes on to wait in that cell
+-- a pad that waits in a cell goes on to wait in that cell, and a disk without one, or in a cell
 abbrev pub StaysIn : {D : Type 0} → Waits D → Waits D → Type 0
-StaysIn (on_disk d) w = Unit {0}
 StaysIn (in_cell c) w = w ≡ in_cell c
-
--- so does one that may wait
-abbrev pub StillWaits : {D : Type 0} → Option (Waits D) → Waits D → Type 0
-StillWaits None w = Unit {0}
-StillWaits (Some old) w = StaysIn old w
+StaysIn (on_disk d) (on_disk back) = back ≡ d
+StaysIn (on_disk d) (in_cell c) = Unit {0}
 
 -- what was to get a place gets it in the cell that is answered; where memory ran out, it waits
 abbrev pub Places : {H D : Type 0} → Register H D → List ℕ → Waits D → Answer → Register H D → Type 0
@@ -111,12 +107,12 @@ module _ {H D : Type 0} (failed : H → ℕ) (names : H → Option (List (List �
     pub cells : t.cells ≡ s.cells
     pub waiting : t.waiting ≡ s.waiting
 
-  -- memory ran out: what was to get a place waits, or no disk was taken off the shelf
+  -- memory ran out: what came to get a place waits, or no disk was taken off the shelf
   pub record Lacks (s : Register H D) (wanted : Wanted) (t : Register H D) : Type 0 where
     pub room : found_in s.cells wanted.name ≡ None → length s.cells < s.limit
     pub keeps : Keeps failed names told s t wanted
     pub cells : t.cells ≡ s.cells
-    pub waiting : ((t.waiting ≡ s.waiting) × (told t.shelf wanted.name ≡ told s.shelf wanted.name)) ⊎ ((w : Waits D) × (t.waiting ≡ without s.waiting wanted.name ++ (wanted.name, w) ∷ []) × StillWaits (found_in s.waiting wanted.name) w)
+    pub waiting : ((t.waiting ≡ s.waiting) × (told t.shelf wanted.name ≡ told s.shelf wanted.name)) ⊎ ((of w : Waits D) × Comes told disk_failed disk_told (found_in s.waiting wanted.name) s.shelf wanted.name of × (t.waiting ≡ without s.waiting wanted.name ++ (wanted.name, w) ∷ []) × StaysIn of w)
 
   -- a call with this answer leads from one state to the next
   abbrev pub Step : Register H D → Wanted → Answer → Register H D → Type 0

@@ -15,4 +15,6 @@ pub returns-in-Ok-clause-places : goal.returns-in-Ok-clause-places
 returns-in-Ok-clause-places g c = anywhere _ _ c.args.name _ c.args.disk _ c.share.ensures.places
 
 pub returns-in-Err-clause-places : goal.returns-in-Err-clause-places
-returns-in-Err-clause-places g c = (refl, refl, refl, (on_disk c.into_disk-disk.result, ap (waits_of wait_of) c.push_reserved.ensures.items ∙ waits-append wait_of c.args.self.now.kept.items _, tt))
+returns-in-Err-clause-places g c =
+    let same = c.into_disk-disk.ensures c.args.disk (subst (λ p. g.P.PadOver.is_shut p c.args.disk) (sym c.in-Err.ensures.refused) c.shut-pad.ensures.disk) in
+    (refl, refl, refl, (on_disk c.into_disk-disk.result, ap (waits_of wait_of) c.push_reserved.ensures.items ∙ waits-append wait_of c.args.self.now.kept.items _, same))
