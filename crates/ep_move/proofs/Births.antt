@@ -1,5 +1,5 @@
 -- The last birth of a pad after each record.
-use Rattle.std.proofs.Common.{◌≡◌, ℕ, suc, ◌≤◌, true, List, [], ◌∷◌, ◌++◌, length, Option, Some, None, refl, sym, ap, ◌∙◌, subst, arith}
+use Rattle.std.proofs.Common.{◌≡◌, ℕ, ◌≤◌, List, [], ◌∷◌, ◌++◌, length, Option, Some, None, refl, sym, ap, ◌∙◌, subst, arith}
 use Rattle.ep_units.specs.Text.{Text}
 use Rattle.ep_cs.specs.Edit.{apply}
 use Rattle.ep_history.specs.History.{Birth, first_rev, head_doc, made, newline}

@@ -1,6 +1,6 @@
 -- A history that comes in, or why none does.
-use Rattle.std.proofs.Common.{◌≡◌, ℕ, ◌≤◌, ◌-◌, Bool, true, false, List, [], length, Option, Some, None, ◌⊎◌, inl, inr, refl, sym, ap, ◌∙◌, subst}
-use Rattle.std.specs.Prelude.{⊤, IsUtf8, Result, Ok, Err}
+use Rattle.std.proofs.Common.{◌≡◌, ℕ, ◌-◌, List, length, Option, inl, inr, refl, sym, subst}
+use Rattle.std.specs.Prelude.{⊤, Ok, Err}
 use Rattle.ep_units.specs.Text.{Text}
 use Rattle.ep_outside.specs.Disk.{Contents}
 use Rattle.ep_outside.specs.Outside.{IsWhole, Takes, TakesPart}
@@ -10,13 +10,12 @@ use Rattle.ep_import.specs.Seen.{said}
 use Rattle.ep_import.specs.declared.bad.ImportBad.{ImportBad}
 use Rattle.ep_import.specs.declared.bad.ImportBad.TheVariants as bad
 use Rattle.ep_import.specs.declared.history.History.{History}
-use Rattle.ep_move.specs.Lines.{imported, refusal}
-use Rattle.ep_move.specs.Moving.{ComesIn, IsNone, IsRefused, IsUntaken, Says, SaysNone}
-use Rattle.ep_move.specs.Moving.IsNone.{NoHistory, NoText}
+use Rattle.ep_move.specs.Lines.{imported}
+use Rattle.ep_move.specs.Moving.{ComesIn, IsNone, IsUntaken, Says, SaysNone}
+use Rattle.ep_move.specs.Moving.IsNone.{NoHistory}
 use Rattle.ep_move.specs.Moving.IsRefused.{ByFile, ByText}
 use Rattle.ep_move.specs.Moving.SaysNone.{Long, Short}
 use Rattle.ep_move.specs.Stopped.{PutsAndSays, SaysLine, StopsBy, StopsLong, WritesStop, stop_by_import}
-use Rattle.ep_move.specs.Text.{IsCut, most_read}
 use Rattle.ep_move.specs.declared.lines.Reason.{Reason}
 use Rattle.ep_move.specs.declared.lines.Reason.TheVariants as reason
 use Rattle.ep_move.specs.declared.moved.Moved.{Moved}

@@ -1,5 +1,5 @@
 -- What follows each record.
-use Rattle.std.proofs.Common.{◌≡◌, ℕ, suc, ◌≤◌, Bool, true, false, List, [], ◌∷◌, length, Option, Some, None, refl, sym, ap, ◌∙◌, subst, true≢false, arith}
+use Rattle.std.proofs.Common.{◌≡◌, ℕ, suc, ◌≤◌, Bool, true, false, [], ◌∷◌, Option, Some, None, refl, sym, ap, ◌∙◌, subst, true≢false, arith}
 use Rattle.std.specs.Prelude.{◌↔◌, ◌&&◌, not, nat_lt, IsNone, IsSome, IsTrue}
 use Rattle.std.proofs.lemmas.Bool.Decides.{nat_tests}
 use Rattle.ep_units.specs.Text.{Text, text_eq}
@@ -8,13 +8,12 @@ use Rattle.ep_attr.proofs.Maps.{exact_test}
 use Rattle.ep_attr.proofs.SameMap.{itself}
 use Rattle.ep_cs.specs.Change.{Change}
 use Rattle.ep_history.specs.History.{head, head_doc, nop_by, step_revs}
-use Rattle.ep_history.specs.Pad.{PadState, create, delete, newest, reopened, set_public, with_nops}
-use Rattle.ep_history.specs.Records.{IsNext, next_pad}
+use Rattle.ep_history.specs.Pad.{PadState, create, delete, newest, reopened, set_public}
 use Rattle.ep_history.specs.declared.record.Record.TheVariants as record_of
 use Rattle.ep_history.proofs.Births.{length-more, nops-count, revs-count}
 use Rattle.ep_pad_state.proofs.Telling.{is-absent}
-use Rattle.ep_move.specs.Born.{HasFirst, IsBorn, MayBear}
-use Rattle.ep_move.specs.Reread.{IsLast, IsReread, IsThere, MayFollow}
+use Rattle.ep_move.specs.Born.{HasFirst, IsBorn}
+use Rattle.ep_move.specs.Reread.{IsLast, IsReread, MayFollow}
 use Rattle.ep_move.specs.declared.last.Last.{Last}
 use Rattle.ep_move.specs.declared.rereading.Reread.{Reread}
 use Rattle.ep_move.proofs.Births.{last_noted, last_same, there_born}

@@ -1,11 +1,10 @@
 -- A history that is put, or why it isn't.
-use Rattle.std.proofs.Common.{◌≡◌, ℕ, ◌<◌, ◌≤◌, Bool, true, List, [], length, Option, Some, None, ◌⊎◌, inl, inr, refl, sym, ap, ◌∙◌, subst, arith}
-use Rattle.ep_outside.specs.Disk.{Contents, IsSure, KeepsMarks}
-use Rattle.ep_history.specs.declared.rev.Rev.{Rev}
-use Rattle.ep_journal.specs.File.{records_of, stands_for}
+use Rattle.std.proofs.Common.{◌≡◌, ℕ, ◌<◌, Bool, List, [], length, Option, Some, None, inl, refl, ap, ◌∙◌, subst, arith}
+use Rattle.ep_outside.specs.Disk.{Contents, IsSure}
+use Rattle.ep_journal.specs.File.{stands_for}
 use Rattle.ep_journal.specs.Held.{HasCount, IsForeign, Stands}
 use Rattle.ep_journal.specs.Journal.{count_of, disk_of, limit_of}
-use Rattle.ep_journal.specs.Refusals.{HasFault, OpenRefused}
+use Rattle.ep_journal.specs.Refusals.{OpenRefused}
 use Rattle.ep_journal.specs.declared.journal.Journal.{Journal}
 use Rattle.ep_journal.specs.declared.journal_bad.JournalBad.{JournalBad}
 use Rattle.ep_journal.specs.declared.journal_bad.JournalBad.TheVariants as journal_bad
@@ -16,7 +15,7 @@ use Rattle.ep_put.specs.Whole.{full_with}
 use Rattle.ep_put.specs.declared.bad.PutBad.{PutBad}
 use Rattle.ep_put.specs.declared.bad.PutBad.TheVariants as put_bad
 use Rattle.ep_verify.proofs.Rereading.{journal}
-use Rattle.ep_move.specs.Moving.{Fails, IsUntaken, most_file}
+use Rattle.ep_move.specs.Moving.{Fails, IsUntaken}
 use Rattle.ep_move.specs.Stopped.{IsOver, StopsBy, stop_by_journal, stop_by_put}
 use Rattle.ep_move.specs.declared.stop.Stop.{Stop}
 use Rattle.ep_move.specs.declared.stop.Stop.TheVariants as stop

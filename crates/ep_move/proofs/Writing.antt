@@ -1,5 +1,5 @@
 -- What is written of a pad's file.
-use Rattle.std.proofs.Common.{◌≡◌, ℕ, Bool, true, false, List, Option, Some, None, Vec, Global, refl, sym, ap, ◌∙◌, subst}
+use Rattle.std.proofs.Common.{◌≡◌, ℕ, Bool, true, false, List, Option, Some, None, Vec, Global, sym, ap, ◌∙◌, subst}
 use Rattle.std.specs.Prelude.{option_map}
 use Rattle.serde_json.specs.Written.{compact_text}
 use Rattle.ep_units.specs.Text.{Text}
@@ -11,10 +11,9 @@ use Rattle.ep_verify.specs.Files.{IsFile}
 use Rattle.ep_verify.specs.Verdicts.{Tells}
 use Rattle.ep_move.specs.Lines.{line, refusal}
 use Rattle.ep_move.specs.Moving.{GoesOut, IsFound, IsSaid, IsUnnamed, WritesLine}
-use Rattle.ep_move.specs.Moving.IsSaid.{NoFile, OfFile}
+use Rattle.ep_move.specs.Moving.IsSaid.{NoFile}
 use Rattle.ep_move.specs.Reread.{IsLast, IsReread}
 use Rattle.ep_move.specs.Told.{HasPast, IsGone, IsUnexported, IsWritten}
-use Rattle.ep_move.specs.Told.IsUnexported.{BadRecord, Foreign, Gone, Late}
 use Rattle.ep_move.specs.Told.IsWritten.{Unwritten, Whole}
 use Rattle.ep_move.specs.declared.last.Last.{Last}
 use Rattle.ep_move.specs.declared.lines.Reason.{Reason}

@@ -1,5 +1,5 @@
 -- Working words of private contracts: a birth that is read.
-use Rattle.std.specs.Prelude.{◌≡◌, ℕ, suc, ◌≤◌, Bool, true, false, List, [], ◌∷◌, Some, None, IsNone}
+use Rattle.std.specs.Prelude.{◌≡◌, ℕ, suc, ◌≤◌, Bool, true, false, [], ◌∷◌, Some, IsNone}
 use Rattle.ep_units.specs.Text.{Text, is_well_formed}
 use Rattle.ep_units.specs.Clean.{clean}
 use Rattle.ep_cs.specs.Edit.{apply}

@@ -1,5 +1,5 @@
 -- For which pads something reread stands.
-use Rattle.std.specs.Prelude.{◌≡◌, ℕ, ◌≤◌, Bool, true, false, List, ◌∷◌, length, Option, Some, None}
+use Rattle.std.specs.Prelude.{◌≡◌, ◌≤◌, Bool, true, false, ◌∷◌, length, Option, Some, None}
 use Rattle.ep_history.specs.History.{head_doc}
 use Rattle.ep_history.specs.Pad.{PadState, newest}
 use Rattle.ep_history.specs.Records.{IsNext, next_pad}

@@ -1,5 +1,5 @@
 -- What is read of a source.
-use Rattle.std.specs.Prelude.{◌≡◌, ℕ, ◌≤◌, Bool, true, false, List, [], ◌++◌, length, Option, Some, None}
+use Rattle.std.specs.Prelude.{◌≡◌, ℕ, ◌≤◌, Bool, true, false, List, [], ◌++◌, length, Option}
 use Rattle.ep_outside.specs.Outside.{Gives, IsAtEnd}
 
 -- so many bytes are read at most: one more than a text may have

@@ -1,10 +1,7 @@
-use Rattle.std.proofs.Common.{ap, subst, sym}
+use Rattle.std.proofs.Common.{subst, sym}
 use Rattle.std.specs.String.{string_bytes}
 use Rattle.ep_verify.specs.Files.{IsFile}
-use Rattle.ep_move.specs.Lines.{refusal}
-use Rattle.ep_move.specs.Moving.{IsFound, IsSaid}
 use Rattle.ep_move.specs.Moving.IsSaid.{OfFile}
-use Rattle.ep_move.specs.declared.lines.Reason.TheVariants as reason
 use Rattle.ep_move.proofs.Causes.{ok_then}
 use Rattle.ep_move.proofs.Writing.{file_found, none_found, no_file}
 use Rattle.ep_move.proofs.exporting.line_for.Goals as goal

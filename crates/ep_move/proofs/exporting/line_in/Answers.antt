@@ -1,11 +1,8 @@
-use Rattle.std.proofs.Common.{◌∙◌, sym, subst}
+use Rattle.std.proofs.Common.{subst}
 use Rattle.std.specs.String.{string_bytes}
-use Rattle.ep_pad.specs.Opening.{IsBadAt}
-use Rattle.ep_verify.specs.Verdicts.{no_limits}
 use Rattle.ep_move.specs.Told.IsUnexported.{BadRecord, Foreign}
 use Rattle.ep_move.specs.Untold.{IsUntold}
 use Rattle.ep_move.specs.declared.lines.Reason.TheVariants as reason
-use Rattle.ep_move.specs.declared.told.Untold.TheVariants as untold
 use Rattle.ep_move.proofs.Causes.{ok_then}
 use Rattle.ep_move.proofs.Writing.{is_refused}
 use Rattle.ep_move.proofs.exporting.line_in.Goals as goal

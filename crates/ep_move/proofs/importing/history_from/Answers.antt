@@ -1,4 +1,4 @@
-use Rattle.std.proofs.Common.{◌∙◌, sym, subst, arith}
+use Rattle.std.proofs.Common.{sym, subst}
 use Rattle.ep_outside.specs.Outside.{IsWhole}
 use Rattle.ep_move.specs.Moving.{IsNone}
 use Rattle.ep_move.specs.Stopped.{StopsBy}

@@ -1,4 +1,4 @@
-use Rattle.std.proofs.Common.{◌≡◌, ℕ, ap, ◌∙◌, arith}
+use Rattle.std.proofs.Common.{ap, ◌∙◌, arith}
 use Rattle.ep_import.specs.Seen.{said}
 use Rattle.ep_move.specs.Lines.{imported}
 use Rattle.ep_move.proofs.Coming.{said_puts}

@@ -1,11 +1,6 @@
-use Rattle.std.proofs.Common.{sym, subst}
-use Rattle.std.specs.Prelude.{IfOk}
 use Rattle.ep_import.specs.Seen.{said}
-use Rattle.ep_journal.specs.File.{stands_for}
-use Rattle.ep_put.specs.Putting.{HoldsHistory}
-use Rattle.ep_move.specs.Moving.{Fails, IsUntaken}
-use Rattle.ep_move.specs.Stopped.{StopsBy}
-use Rattle.ep_move.proofs.Untaken.{stops_said, told_some, unput}
+use Rattle.ep_move.specs.Moving.{Fails}
+use Rattle.ep_move.proofs.Untaken.{stops_said}
 use Rattle.ep_move.proofs.putting.put_into.Goals as goal
 
 pub returns-in-Err-clause-stops : goal.returns-in-Err-clause-stops
